@@ -1,0 +1,19 @@
+use native.Mathlib.Omega.{arith}
+use mathlib.Core.Path.{_≡_, refl, sym, _∙_, ap}
+use lib.ListN.{length}
+use Rattle.column.specs.Short.{leb128}
+use Rattle.column.proofs.Leb128.{leb-small, leb-more, leb-fewest, length-leb}
+use Rattle.column.proofs.short.Short.size.Needs as need
+
+pub loop-rest-again : need.loop-rest-again
+loop-rest-again c =
+    let more = ap length (leb-more (c .loop-rest .rest) (c .loop-rest-test .taken) (c .loop-rest .inv .1)) in
+    (omega (arith, more, c .loop-rest .inv .0), omega (arith, c .loop-rest .inv .1))
+
+pub returns : need.returns
+returns c =
+    let last = ap length (leb-small (c .loop-rest .rest) (c .loop-rest-test .left)) in
+    record { size = omega (arith, last, c .loop-rest .inv .0); fewest = leb-fewest (c .args .value) (omega (arith, c .fits .value)) }
+
+pub add-size : need.add-size
+add-size c = omega (arith, length-leb (c .args .value), c .loop-rest .inv .0)

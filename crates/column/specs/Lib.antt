@@ -1,0 +1,9 @@
+pub mod Widths
+pub mod Parsed
+pub mod Meaning
+pub mod Interface
+pub mod Coded
+pub mod Digits
+pub mod Flat
+pub mod Short
+pub mod Steps
