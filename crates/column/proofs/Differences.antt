@@ -1,29 +1,17 @@
 -- Steps: differences and running sums undo each other, modulo the width.
 use mathlib.Core.Path.{_≡_, refl, sym, _∙_, ap}
-use mathlib.Core.Bool.{true, false, _&&_}
 use mathlib.Core.List.{List, [], _∷_, _++_}
-use mathlib.Core.Logic.{inl, inr}
-use Prim.Native.Nat.{ℕ, zero, suc, _+_, _-_, _*_, _%_, _^_, _<_, _≤_, min}
+use Prim.Native.Nat.{ℕ, zero, suc, _+_, _-_, _*_, _%_, _^_, _<_, _≤_}
 use native.Mathlib.Nat.{mod-lt, mod-eq-of-lt, add-mod-mod, add-mod-right, add-mul-mod-self-left}
 use native.Mathlib.Omega.{arith}
 use lib.Bits.{bitAnd}
 use lib.Pow.{pow-pos, pow-add, mod-mod-pow}
-use lib.Dec.{leb}
 use lib.ListN.{length, getD, take, drop, set}
-use Rattle.std.specs.declared.result.Result.{Result}
-use Rattle.std.specs.declared.result.Result.the-variants.{Ok, Err}
 use Rattle.std.proofs.shelf.Bits.{and-mask}
 use Rattle.std.proofs.shelf.Lists.{take-more-set, drop-set-lt, drop-more, append-assoc, append-nil, take-all, drop-all}
-use Rattle.std.proofs.shelf.Tests.{cases-bool, and-parts, and-from}
-use Rattle.column.specs.declared.fault.Cause.{Cause}
-use Rattle.column.specs.declared.fault.Cause.the-variants.{Room, Short, Bad}
-use Rattle.column.specs.declared.fault.Fault.{Fault}
-use Rattle.column.specs.Widths.{listed, below, Below, Bytes}
-use Rattle.column.specs.Parsed.{Parsed, got, short, bad, fault, told, valuesOf}
-use Rattle.column.specs.Meaning.{Meaning, Lawful, Yields}
-use Rattle.column.specs.Interface.{writing, reading}
-use Rattle.column.specs.Steps.{differences, sums, summed, steps}
-use Rattle.column.proofs.Widths.{below-decides}
+use Rattle.column.specs.Widths.{Below}
+use Rattle.column.specs.Layer.{Undone}
+use Rattle.column.specs.Steps.{differences, sums}
 
 -- ---- one step
 
@@ -84,50 +72,8 @@ pub changed-all : (F : List ℕ → List ℕ) (vs : List ℕ) (i : ℕ) (all : L
 changed-all F vs i all none h f =
     sym (ap (λ (xs : List ℕ). xs ++ F (drop i vs)) (take-all i vs h) ∙ ap (λ ys. vs ++ F ys) (drop-all i vs h) ∙ ap (λ (ys : List ℕ). vs ++ ys) none ∙ append-nil vs) ∙ f
 
--- ---- one layer deeper
+-- ---- the layer
 
-deeper : (layer depth : ℕ) → min (min (layer + 1) 65535 + depth) 65535 ≡ min (layer + suc depth) 65535
-deeper layer depth = omega arith
-
-fault-deeper : (c : Cause) (layer depth : ℕ) → fault c (min (layer + 1) 65535 + depth) ≡ fault c (layer + suc depth)
-fault-deeper c layer depth = ap (λ (n : ℕ). record { cause = c; layer = n }) (deeper layer depth)
-
-pub steps-writing : (kind : Meaning) (layer w : ℕ) (vs : List ℕ) (size place : ℕ) → (listed w && below w vs) ≡ true
-    → writing kind (min (layer + 1) 65535) w (differences w 0 vs) size place ≡ writing (steps kind) layer w vs size place
-steps-writing kind layer w vs size place h =
-    let l = and-parts (listed w) (below w vs) h .0 in
-    let b : (listed w && below w (differences w 0 vs)) ≡ true = and-from (listed w) _ l (below-decides w (differences w 0 vs) .1 (below-differences w 0 vs)) in
-    rw (h, b, fault-deeper Room layer (kind .floor)) refl
-
-pub told-summed : (layer w : ℕ) (p : Parsed (List ℕ)) → told (min (layer + 1) 65535) p ≡ told layer (summed w p)
-told-summed layer w (got vs used) = refl
-told-summed layer w (short depth) = ap Err (fault-deeper Short layer depth)
-told-summed layer w (bad depth) = ap Err (fault-deeper Bad layer depth)
-
-pub values-summed : (w : ℕ) (p : Parsed (List ℕ)) → sums w 0 (valuesOf p) ≡ valuesOf (summed w p)
-values-summed w (got vs used) = refl
-values-summed w (short depth) = refl
-values-summed w (bad depth) = refl
-
-pub steps-reading : (kind : Meaning) (w n : ℕ) (input : List ℕ) (place : ℕ) → listed w ≡ true → summed w (reading kind w n input place) ≡ reading (steps kind) w n input place
-steps-reading kind w n input place l = elim (cases-bool (leb place (length input))) [ inl e ↦ rw (e, l) refl | inr e ↦ rw (e, l) refl ]
-
--- ---- the laws
-
-pub steps-lawful : (kind : Meaning) → Lawful kind → Lawful (steps kind)
-steps-lawful kind law =
-    record { empty = law .empty; reads = reads; bytes = λ w vs l b. law .bytes w (differences w 0 vs) l (below-differences w 0 vs); yields = yields; unlisted = λ w n bs l. rw l refl }
-  where
-    reads : (w : ℕ) (vs rest : List ℕ) → listed w ≡ true → Below w vs → steps kind .parse w (length vs) (steps kind .image w vs ++ rest) ≡ got vs (length (steps kind .image w vs))
-    reads w vs rest l b =
-        let low = law .reads w (differences w 0 vs) rest l (below-differences w 0 vs) in
-        let long = length-differences w 0 vs in
-        rw (l, ← long, low, sums-differences w 0 vs (pow-pos w) b) refl
-
-    summed-yields : (w n : ℕ) (bs : List ℕ) (p : Parsed (List ℕ)) → Yields w n bs p → Yields w n bs (summed w p)
-    summed-yields w n bs (got ds used) y = (length-sums w 0 ds ∙ y .0, below-sums w 0 ds, y .2)
-    summed-yields w n bs (short depth) y = tt
-    summed-yields w n bs (bad depth) y = tt
-
-    yields : (w n : ℕ) (bs : List ℕ) → Bytes bs → Yields w n bs (steps kind .parse w n bs)
-    yields w n bs b = elim (cases-bool (listed w)) [ inl l ↦ rw l (summed-yields w n bs (kind .parse w n bs) (law .yields w n bs b)) | inr l ↦ rw l tt ]
+pub steps-undone : Undone (λ w. differences w 0) (λ w. sums w 0)
+steps-undone =
+    record { empty = λ w. refl; as-long = λ w vs. length-differences w 0 vs; fits = λ w vs _. below-differences w 0 vs; undoes = λ w vs b. sums-differences w 0 vs (pow-pos w) b; back-as-long = λ w ds. length-sums w 0 ds; back-fits = λ w ds _. below-sums w 0 ds }

@@ -4,6 +4,7 @@ pub mod Overlaid
 pub mod OneByOne
 pub mod Numbers
 pub mod LowFirst
+pub mod Layers
 pub mod Differences
 pub mod Leb128
 pub mod ThereAndBack

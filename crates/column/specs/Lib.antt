@@ -6,4 +6,5 @@ pub mod Coded
 pub mod Digits
 pub mod Flat
 pub mod Short
+pub mod Layer
 pub mod Steps

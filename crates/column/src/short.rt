@@ -28,11 +28,11 @@ impl Short {
         ensures size { λ r. ⌜ r ≡ length (leb128 value) ⌝ }
         ensures fewest { λ _. ⌜ Fewest value (leb128 value) ⌝ }
     {
-        let mut rest = value;
+        let mut left = value;
         let mut size = 1;
-        while rest >= 128 {
+        while left >= 128 {
             size += 1;
-            rest /= 128;
+            left /= 128;
         }
         size
     }

@@ -5,15 +5,15 @@ use Rattle.column.specs.Short.{leb128}
 use Rattle.column.proofs.Leb128.{leb-small, leb-more, leb-fewest, length-leb}
 use Rattle.column.proofs.short.Short.size.Needs as need
 
-pub loop-rest-again : need.loop-rest-again
-loop-rest-again c =
-    let more = ap length (leb-more (c .loop-rest .rest) (c .loop-rest-test .taken) (c .loop-rest .inv .1)) in
-    (omega (arith, more, c .loop-rest .inv .0), omega (arith, c .loop-rest .inv .1))
+pub loop-left-again : need.loop-left-again
+loop-left-again c =
+    let more = ap length (leb-more (c .loop-left .left) (c .loop-left-test .taken) (c .loop-left .inv .1)) in
+    (omega (arith, more, c .loop-left .inv .0), omega (arith, c .loop-left .inv .1))
 
 pub returns : need.returns
 returns c =
-    let last = ap length (leb-small (c .loop-rest .rest) (c .loop-rest-test .left)) in
-    record { size = omega (arith, last, c .loop-rest .inv .0); fewest = leb-fewest (c .args .value) (omega (arith, c .fits .value)) }
+    let last = ap length (leb-small (c .loop-left .left) (c .loop-left-test .left)) in
+    record { size = omega (arith, last, c .loop-left .inv .0); fewest = leb-fewest (c .args .value) (omega (arith, c .fits .value)) }
 
 pub add-size : need.add-size
-add-size c = omega (arith, length-leb (c .args .value), c .loop-rest .inv .0)
+add-size c = omega (arith, length-leb (c .args .value), c .loop-left .inv .0)

@@ -4,8 +4,8 @@ use lib.ListN.{length}
 use Rattle.column.specs.Short.{leb128}
 use Rattle.column.proofs.short.Short.size.Given as given
 
-abbrev pub Inv-loop-rest : given.InvT-loop-rest
-Inv-loop-rest l = (l .size + length (leb128 (l .rest)) ≡ length (leb128 (l .value)) + 1) × (l .rest < 2 ^ 64)
+abbrev pub Inv-loop-left : given.InvT-loop-left
+Inv-loop-left l = (l .size + length (leb128 (l .left)) ≡ length (leb128 (l .value)) + 1) × (l .left < 2 ^ 64)
 
-abbrev pub μ-loop-rest : given.MeasureT-loop-rest
-μ-loop-rest l = l .rest
+abbrev pub μ-loop-left : given.MeasureT-loop-left
+μ-loop-left l = l .left

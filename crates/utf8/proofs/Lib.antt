@@ -1,0 +1,4 @@
+pub mod Rows
+pub mod Encoding
+pub mod Guards
+pub mod Verdicts

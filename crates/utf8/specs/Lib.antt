@@ -1,0 +1,4 @@
+pub mod Table
+pub mod Passes
+pub mod Scalars
+pub mod Examples
