@@ -1,0 +1,12 @@
+pub mod Paths
+pub mod Sound
+pub mod Accepting
+pub mod Parsing
+pub mod Count
+pub mod ReadBack
+pub mod Between
+pub mod Taking
+pub mod Texts
+pub mod Heard
+pub mod Faith
+pub mod Accepted

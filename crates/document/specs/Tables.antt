@@ -1,0 +1,93 @@
+-- What a list of calls takes of the tables.
+use mathlib.Core.List.{List, [], _∷_, map as each}
+use mathlib.Core.Bool.{Bool, true, false, cond}
+use Prim.Native.Nat.{ℕ, _+_, _-_, min}
+use lib.Dec.{eqb, ltb}
+use lib.ListN.{length}
+use Rattle.document.specs.Calls.{total, Kind, SCALAR, TEXT, SEQ, MAP, ENUM, UNIT, TUPLE, Value, scalar, text, unit, none, some, variant, seq, map, tuple, kind, cell, str}
+use Rattle.document.specs.Nodes.{Path}
+use Rattle.document.specs.Entries.{Entry, at}
+use Rattle.document.specs.Bytes.{firsts}
+
+-- the cells, or slots, that a value takes: a length of 255 or more takes two
+abbrev pub lengthCells : ℕ → ℕ
+lengthCells n = cond (ltb n 255) 1 2
+
+abbrev pub cells : Value → ℕ
+cells (scalar k b) = 1
+cells (text bs) = lengthCells (length bs)
+cells unit = 0
+cells none = 1
+cells some = 1
+cells (variant i) = 1
+cells (seq n) = lengthCells n
+cells (map n) = lengthCells n
+cells (tuple n) = 0
+
+abbrev pub cellsOf : List Entry → ℕ
+cellsOf es = total (λ e. cells (e .said)) es
+
+-- the node records that marking a node takes
+abbrev pub takes : Kind → ℕ
+takes (SCALAR k) = 0
+takes TEXT = 0
+takes SEQ = 1
+takes MAP = 2
+takes ENUM = 0
+takes UNIT = 0
+takes (TUPLE n) = n
+
+-- an index of an ENUM node, whose child takes a record when it is new
+pub data Kid : Type 0 where
+  kidless : Kid
+  kid : ℕ → Kid
+
+abbrev pub kidOf : Value → Kid
+kidOf (scalar k b) = kidless
+kidOf (text bs) = kidless
+kidOf unit = kidless
+kidOf none = kid 0
+kidOf some = kid 1
+kidOf (variant i) = kid i
+kidOf (seq n) = kidless
+kidOf (map n) = kidless
+kidOf (tuple n) = kidless
+
+abbrev pub newKid : (ℕ → Bool) → Kid → ℕ
+newKid had kidless = 0
+newKid had (kid i) = cond (had i) 0 1
+
+abbrev pub withKid : (ℕ → Bool) → Kid → ℕ → Bool
+withKid had kidless j = had j
+withKid had (kid i) j = cond (eqb i j) true (had j)
+
+-- how many indices among the values are new: had says which there are
+abbrev pub kids : (ℕ → Bool) → List Value → ℕ
+kids had [] = 0
+kids had (v ∷ vs) = newKid had (kidOf v) + kids (withKid had (kidOf v)) vs
+
+abbrev pub marks : List Value → ℕ
+marks [] = 0
+marks (v ∷ vs) = takes (kind v)
+
+abbrev pub recordsAt : List Value → ℕ
+recordsAt vs = marks vs + kids (λ i. false) vs
+
+-- .. beside the root's own
+abbrev pub recordsOf : List Entry → ℕ
+recordsOf es = total (λ q. recordsAt (at q es)) (firsts es)
+
+-- the text bytes
+abbrev pub lettersOf : List Entry → ℕ
+lettersOf es = total (λ e. length (str (cell (e .said)))) es
+
+-- ---- how much of a table can be used: record 0 stays unused, and past its limit nothing is
+
+abbrev pub usableNodes : ℕ → ℕ
+usableNodes size = min size 65536 - 1
+
+abbrev pub usableCells : ℕ → ℕ
+usableCells size = min size 1048576 - 1
+
+abbrev pub usableText : ℕ → ℕ
+usableText size = min size 16777216
