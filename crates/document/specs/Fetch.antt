@@ -3,7 +3,7 @@ use mathlib.Core.List.{List, [], _∷_, map as each}
 use mathlib.Core.Bool.{Bool, true, cond, _&&_}
 use Prim.Native.Nat.{ℕ, suc, _+_, _-_, min}
 use lib.Dec.{ltb, leb}
-use lib.ListN.{length, take, drop, replicate}
+use lib.ListN.{length, getD, take, drop, replicate}
 use Rattle.column.specs.Parsed.{Parsed, got, short, bad}
 use Rattle.column.specs.Meaning.{Meaning}
 use Rattle.utf8.specs.Passes.{passes}
@@ -43,17 +43,9 @@ numbers col column w n u = cond (leb n (u .slots)) (from column n u (col .parse 
 abbrev pub beyond : List ℕ → ℕ
 beyond ss = total (λ s. cond (ltb s 255) 0 1) ss
 
-abbrev pub first : List ℕ → ℕ
-first [] = 0
-first (n ∷ ns) = n
-
-abbrev pub later : List ℕ → List ℕ
-later [] = []
-later (n ∷ ns) = ns
-
 abbrev pub merged : List ℕ → List ℕ → List ℕ
 merged [] ls = []
-merged (s ∷ ss) ls = cond (ltb s 255) (s ∷ merged ss ls) (first ls ∷ merged ss (later ls))
+merged (s ∷ ss) ls = cond (ltb s 255) (s ∷ merged ss ls) (getD ls 0 0 ∷ merged ss (drop 1 ls))
 
 abbrev pub limited : List ℕ → Supply → Fetched (List ℕ)
 limited ns u = cond (ltb (sum ns) limit) (fetched ns u) (denied refusals.Sum)

@@ -1,7 +1,7 @@
 -- The writer's verdict on the next call, and the lists that it accepts.
 use mathlib.Core.Path.{_≡_}
 use mathlib.Core.List.{List, [], _∷_, _++_}
-use mathlib.Core.Bool.{Bool, true, false, cond, not, _||_}
+use mathlib.Core.Bool.{Bool, true, false, cond, not, _&&_, _||_}
 use Prim.Native.Nat.{ℕ, _+_, _<_, _^_}
 use lib.Dec.{eqb, ltb, leb}
 use Rattle.std.specs.declared.result.Result.{Result}
@@ -11,7 +11,7 @@ use Rattle.document.specs.declared.scalars.Scalar.{Scalar}
 use Rattle.document.specs.declared.scalars.Scalar.the-variants as scalars
 use Rattle.document.specs.declared.refusals.Refusal.{Refusal}
 use Rattle.document.specs.declared.refusals.Refusal.the-variants as refusals
-use Rattle.document.specs.Calls.{width, total, extent, Kind, SCALAR, TEXT, SEQ, MAP, ENUM, UNIT, TUPLE, Value, scalar, text, unit, none, some, variant, seq, map, tuple, kind, Call, val, end}
+use Rattle.document.specs.Calls.{width, total, extent, Kind, SCALAR, TEXT, SEQ, MAP, ENUM, UNIT, TUPLE, Value, scalar, text, unit, none, some, variant, seq, map, tuple, kind, cell, num, str, Call, val, end}
 use Rattle.document.specs.Entries.{Entry, at}
 use Rattle.document.specs.Places.{Place, Turn, stays, goes, turn, start}
 use Rattle.document.specs.Trace.{trace, placesAfter}
@@ -59,26 +59,10 @@ abbrev pub clash : List Entry → Entry → Bool
 clash ts e = strange (at (e .node) ts) (e .said)
 
 abbrev pub highIndex : Value → Bool
-highIndex (scalar k b) = false
-highIndex (text bs) = false
-highIndex unit = false
-highIndex none = false
-highIndex some = false
-highIndex (variant i) = ltb 255 i
-highIndex (seq n) = false
-highIndex (map n) = false
-highIndex (tuple n) = false
+highIndex v = eqb (kindNumber (kind v)) (kindNumber ENUM) && ltb 255 (num (cell v))
 
 abbrev pub illFormed : Value → Bool
-illFormed (scalar k b) = false
-illFormed (text bs) = not (passes bs)
-illFormed unit = false
-illFormed none = false
-illFormed some = false
-illFormed (variant i) = false
-illFormed (seq n) = false
-illFormed (map n) = false
-illFormed (tuple n) = false
+illFormed v = eqb (kindNumber (kind v)) (kindNumber TEXT) && not (passes (str (cell v)))
 
 -- the lengths at an entry's node come to the limit
 abbrev pub tooLong : List Entry → Entry → Bool
