@@ -14,7 +14,7 @@ pub struct Digest {
 
 impl Digest {
     /// The digest of no byte.
-    pub fn new() -> Digest
+    pub(crate) fn new() -> Digest
         ensures { λ r. ⌜ r .state ≡ 14695981039346656037 ⌝ }
     {
         Digest {
@@ -22,21 +22,21 @@ impl Digest {
         }
     }
 
-    pub fn byte(&mut self, byte: u8)
+    pub(crate) fn byte(&mut self, byte: u8)
         ensures { λ _. ⌜ now (self .exit) .state ≡ hashed (now (self .entry) .state) byte ⌝ }
     {
         self.state = (self.state ^ u64::from(byte)).wrapping_mul(0x100_0000_01b3);
     }
 
     /// A number as eight bytes, low byte first.
-    pub fn number(&mut self, number: u64) {
+    pub(crate) fn number(&mut self, number: u64) {
         for byte in number.to_le_bytes() {
             self.byte(byte);
         }
     }
 
     /// One read: 0, the bytes used and the values; or the cause's code, and the layer.
-    pub fn read(&mut self, answer: Result<usize, Fault>, values: &[u64]) {
+    pub(crate) fn read(&mut self, answer: Result<usize, Fault>, values: &[u64]) {
         match answer {
             Ok(used) => {
                 self.byte(0);

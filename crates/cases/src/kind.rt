@@ -31,7 +31,7 @@ const STEPS_FLAT: Steps<Flat> = Steps { lower: Flat };
 const STEPS_SHORT: Steps<Short> = Steps { lower: Short };
 
 impl Kind {
-    pub fn named(name: &str) -> Option<Kind> {
+    pub(crate) fn named(name: &str) -> Option<Kind> {
         match name {
             "flat" => Some(Kind::Flat),
             "short" => Some(Kind::Short),
@@ -44,7 +44,7 @@ impl Kind {
     }
 
     /// Writes by the kind that is named.
-    pub fn write(
+    pub(crate) fn write(
         self,
         layer: u16,
         width: u32,
@@ -78,7 +78,7 @@ impl Kind {
     }
 
     /// Reads by the kind that is named.
-    pub fn read(
+    pub(crate) fn read(
         self,
         layer: u16,
         width: u32,

@@ -65,7 +65,7 @@ pub enum Question {
 
 impl Question {
     /// The question that a line asks.
-    pub fn parse(heap: Global, line: &str) -> Result<Question, AnyError> {
+    pub(crate) fn parse(heap: Global, line: &str) -> Result<Question, AnyError> {
         let mut words = Words::of(line);
         match words.word()? {
             "write" => Ok(Question::Write {
@@ -95,7 +95,7 @@ impl Question {
     }
 
     /// What the crates answer.
-    pub fn answer(self, heap: Global) -> Result<Answer, AllocError>
+    pub(crate) fn answer(self, heap: Global) -> Result<Answer, AllocError>
         ensures { λ r. ⌜ made r (λ a. Answered self a) ⌝ }
     {
         match self {

@@ -46,7 +46,7 @@ pub trait Taker {
 
 impl StringSet {
     /// Hands on each string of the set, in order.
-    pub fn each<T: Taker>(self, taker: &mut T) {
+    pub(crate) fn each<T: Taker>(self, taker: &mut T) {
         match self {
             StringSet::Few => few(taker),
             StringSet::Pairs(first) => pairs(first, taker),

@@ -13,7 +13,7 @@ pub struct Tally {
 }
 
 impl Tally {
-    pub fn new() -> Tally
+    pub(crate) fn new() -> Tally
         ensures { λ r. ⌜ r .compared ≡ 0 ⌝ ∗ ⌜ r .differed ≡ 0 ⌝ }
     {
         Tally {
@@ -22,7 +22,7 @@ impl Tally {
         }
     }
 
-    pub fn count(&mut self, same: bool)
+    pub(crate) fn count(&mut self, same: bool)
         ensures compared { λ _. ⌜ now (self .exit) .compared ≡ min (now (self .entry) .compared + 1) (2 ^ 64 - 1) ⌝ }
         ensures differed { λ _. ⌜ now (self .exit) .differed ≡ cond same (now (self .entry) .differed) (min (now (self .entry) .differed + 1) (2 ^ 64 - 1)) ⌝ }
     {
@@ -32,7 +32,7 @@ impl Tally {
         }
     }
 
-    pub fn add(&mut self, other: Tally)
+    pub(crate) fn add(&mut self, other: Tally)
         ensures compared { λ _. ⌜ now (self .exit) .compared ≡ min (now (self .entry) .compared + other .compared) (2 ^ 64 - 1) ⌝ }
         ensures differed { λ _. ⌜ now (self .exit) .differed ≡ min (now (self .entry) .differed + other .differed) (2 ^ 64 - 1) ⌝ }
     {

@@ -14,12 +14,12 @@ pub struct Words<'a> {
 }
 
 impl<'a> Words<'a> {
-    pub fn of(line: &'a str) -> Words<'a> {
+    pub(crate) fn of(line: &'a str) -> Words<'a> {
         Words { rest: line }
     }
 
     /// The next word, up to a space.
-    pub fn word(&mut self) -> Result<&'a str, AnyError> {
+    pub(crate) fn word(&mut self) -> Result<&'a str, AnyError> {
         if self.rest.is_empty() {
             return Err("a word is missing".into());
         }
@@ -36,28 +36,28 @@ impl<'a> Words<'a> {
         }
     }
 
-    pub fn number(&mut self) -> Result<u64, AnyError> {
+    pub(crate) fn number(&mut self) -> Result<u64, AnyError> {
         Ok(self.word()?.parse::<u64>()?)
     }
 
-    pub fn size(&mut self) -> Result<usize, AnyError> {
+    pub(crate) fn size(&mut self) -> Result<usize, AnyError> {
         Ok(self.number()? as usize)
     }
 
-    pub fn layer(&mut self) -> Result<u16, AnyError> {
+    pub(crate) fn layer(&mut self) -> Result<u16, AnyError> {
         Ok(u16::try_from(self.number()?)?)
     }
 
-    pub fn width(&mut self) -> Result<u32, AnyError> {
+    pub(crate) fn width(&mut self) -> Result<u32, AnyError> {
         Ok(u32::try_from(self.number()?)?)
     }
 
-    pub fn kind(&mut self) -> Result<Kind, AnyError> {
+    pub(crate) fn kind(&mut self) -> Result<Kind, AnyError> {
         Ok(Kind::named(self.word()?).ok_or("an unknown kind")?)
     }
 
     /// Values with commas, or '-' for none.
-    pub fn values(&mut self, heap: Global) -> Result<Vec<u64>, AnyError> {
+    pub(crate) fn values(&mut self, heap: Global) -> Result<Vec<u64>, AnyError> {
         let word = self.word()?;
         let mut values = Vec::new(heap);
         if word != "-" {
@@ -69,7 +69,7 @@ impl<'a> Words<'a> {
     }
 
     /// Bytes of two digits each, or '-' for none.
-    pub fn bytes(&mut self, heap: Global) -> Result<Vec<u8>, AnyError> {
+    pub(crate) fn bytes(&mut self, heap: Global) -> Result<Vec<u8>, AnyError> {
         let word = self.word()?;
         let mut bytes = Vec::new(heap);
         if word != "-" {
@@ -80,7 +80,7 @@ impl<'a> Words<'a> {
         Ok(bytes)
     }
 
-    pub fn set(&mut self) -> Result<StringSet, AnyError> {
+    pub(crate) fn set(&mut self) -> Result<StringSet, AnyError> {
         match self.word()? {
             "few" => Ok(StringSet::Few),
             "pairs" => Ok(StringSet::Pairs(byte(self.word()?.as_bytes())?)),

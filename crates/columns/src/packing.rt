@@ -48,7 +48,7 @@ pub impl fmt::Display for PackError as PackErrorDisplay {
 }
 
 /// The values' bytes under a kind, in a buffer of this room.
-pub fn pack<C: Column>(
+pub(crate) fn pack<C: Column>(
     heap: Global,
     kind: &C,
     width: u32,
@@ -66,7 +66,7 @@ pub fn pack<C: Column>(
 }
 
 /// The first values of the bytes under a kind.
-pub fn unpack<C: Column>(
+pub(crate) fn unpack<C: Column>(
     heap: Global,
     kind: &C,
     width: u32,
@@ -81,7 +81,7 @@ pub fn unpack<C: Column>(
 }
 
 /// Packs the values and reads them back in place, and answers the number of their bytes.
-pub fn there_and_back<C: Column>(
+pub(crate) fn there_and_back<C: Column>(
     heap: Global,
     kind: &C,
     width: u32,

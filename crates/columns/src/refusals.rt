@@ -130,7 +130,7 @@ fn show_text(rt: &LibcRuntime, text: &[u8]) -> io::Result<()> {
 }
 
 /// Prints one example of each refusal.
-pub fn show_refusals(rt: &LibcRuntime) -> io::Result<()> {
+pub(crate) fn show_refusals(rt: &LibcRuntime) -> io::Result<()> {
     println!(rt, "refusals")?;
     show_writes(rt)?;
     show_reads(rt)?;

@@ -100,7 +100,7 @@ fn show_seat(rt: &LibcRuntime, name: &[u8]) -> io::Result<()> {
 }
 
 /// Prints each line of the table, and passes over those that cannot be read.
-pub fn show_table(rt: &LibcRuntime, text: &[u8]) -> io::Result<()> {
+pub(crate) fn show_table(rt: &LibcRuntime, text: &[u8]) -> io::Result<()> {
     let mut rest = text;
     let mut number = 0usize;
     while !rest.is_empty() {

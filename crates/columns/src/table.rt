@@ -74,7 +74,7 @@ pub impl fmt::Display for LineError as LineErrorDisplay {
 }
 
 /// The index of the first byte of the text that equals this one, or the text's length where there is none.
-pub fn find(text: &[u8], byte: u8) -> usize
+pub(crate) fn find(text: &[u8], byte: u8) -> usize
     ensures within { λ r. ⌜ r ≤ length (now (text .entry)) ⌝ }
     ensures before { λ r. ⌜ ((k : ℕ) → k < r → getD (now (text .entry)) k 0 ≡ byte → ⊥) ⌝ }
     ensures found { λ r. ⌜ (r < length (now (text .entry)) → getD (now (text .entry)) r 0 ≡ byte) ⌝ }
@@ -88,7 +88,7 @@ pub fn find(text: &[u8], byte: u8) -> usize
 }
 
 /// The numbers of a text, at most `MOST` of them.
-pub fn numbers(heap: Global, text: &str) -> Result<Vec<u64>, LineError>
+pub(crate) fn numbers(heap: Global, text: &str) -> Result<Vec<u64>, LineError>
     ensures { λ r. ⌜ made r (λ values. vec-len values ≤ 64) ⌝ }
 {
     let mut values = Vec::new(heap);
@@ -103,7 +103,7 @@ pub fn numbers(heap: Global, text: &str) -> Result<Vec<u64>, LineError>
 
 impl TableColumn {
     /// Reads `NAME WIDTH: NUMBER NUMBER ..`.
-    pub fn parse(heap: Global, line: &str) -> Result<TableColumn, LineError> {
+    pub(crate) fn parse(heap: Global, line: &str) -> Result<TableColumn, LineError> {
         let (head, body) = line.split_once(':').ok_or(LineError::NoColon)?;
         let (name, width) = head.split_once(' ').ok_or(LineError::NoWidth)?;
         Ok(TableColumn {
@@ -114,7 +114,7 @@ impl TableColumn {
     }
 
     /// Room for the values under any kind: none of them takes more than ten bytes.
-    pub fn room(&self) -> usize
+    pub(crate) fn room(&self) -> usize
         ensures { λ r. ⌜ r ≡ 10 * vec-len (now (self .entry) .values) ⌝ }
     {
         10 * self.values.len()
@@ -123,7 +123,7 @@ impl TableColumn {
 
 impl Entry<'_> {
     /// Reads a line: `seat: NAME`, or a column.
-    pub fn parse(heap: Global, line: &[u8]) -> Result<Entry<'_>, LineError> {
+    pub(crate) fn parse(heap: Global, line: &[u8]) -> Result<Entry<'_>, LineError> {
         if let Some(name) = line.strip_prefix(b"seat: ") {
             return Ok(Entry::Seat(name));
         }

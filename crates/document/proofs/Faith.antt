@@ -50,9 +50,9 @@ told-apart : (col : Meaning) (input : List ℕ) (cs ds : List Call) (rs bs : Lis
 unfolding plains
 told-apart col input cs ds rs bs equal r e f = refl
 told-apart col input cs ds rs bs (later {c = c} {cs = xs} {ds = ys} a) r e f =
-    ap (λ l. c ∷ l) (same-later input c (λ s. replay col input s (plains xs)) (λ s. replay col input s (plains ys)) (answer col r (asked false c)) xs ys rs bs e f (told-apart col input xs ys rs bs a))
+    ap (λ l. c ∷ l) (same-later input c (λ s. replay col input s (plains xs)) (λ s. replay col input s (plains ys)) (answer col (r .store) (r .places) (asked false c)) xs ys rs bs e f (told-apart col input xs ys rs bs a))
 told-apart col input cs ds rs bs (apart {c = c} {d = d} {cs = xs} {ds = ys} q n) r e f =
-    absurd (n (same-first input c d (λ s. replay col input s (plains xs)) (λ s. replay col input s (plains ys)) (answer col r (asked false c)) xs ys rs bs e (rw q f)))
+    absurd (n (same-first input c d (λ s. replay col input s (plains xs)) (λ s. replay col input s (plains ys)) (answer col (r .store) (r .places) (asked false c)) xs ys rs bs e (rw q f)))
 
 -- one document's bytes begin the other's: a reader with tables for both tells them apart
 pub apart-within : (col : Meaning) → Lawful col → (one two : Sizes) (cs ds : List Call) → Sane one cs → Sane two ds → AskedAlike cs ds → (after : List ℕ) → bytes col cs ++ after ≡ bytes col ds → cs ≡ ds

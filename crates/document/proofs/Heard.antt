@@ -16,7 +16,7 @@ use Rattle.document.specs.Calls.{str, Kind, SCALAR, TEXT, SEQ, MAP, ENUM, UNIT
 use Rattle.document.specs.Entries.{Entry, entry, at, leaves}
 use Rattle.document.specs.Nodes.{Path, root, _▹_, Step, alt, same, demand, demands}
 use Rattle.document.specs.Places.{Place, only, Next, nowhere, there, next, full, opens, settle, Turn, stays, goes, tooMany, tell, turn, start, Complete, Onward}
-use Rattle.document.specs.Reader.{Store, rooted, opened, withChild, taken, letterCount, housed, child, Node, fresh, ready, put, spread, Look, found, look, oversized, respond, consult, onward, answerAt, reply, Reply, refuse, reading, Reading, begin, unread}
+use Rattle.document.specs.Reader.{Store, rooted, opened, withChild, taken, letterCount, housed, child, Node, fresh, ready, put, spread, Look, found, look, oversized, respond, consult, opening, tupled, standing, scalar?, text?, option?, variant?, seq?, map?, reply, Reply, refuse, reading, Reading, begin, unread}
 use Rattle.document.specs.Replay.{replay, heard, Replay, going, also, hearing}
 use Rattle.document.specs.Tables.{cells, takes, Kid, kidless, kid, kidOf, newKid, withKid, kids, recordsOf, cellsOf, usableNodes, usableCells}
 use Rattle.document.specs.Theorems.{Asks, Asked}
@@ -215,9 +215,33 @@ light : (flag : Bool) (n : ℕ) → (T flag → n ≤ 65536) → oversized flag 
 light true n h = le-ltb 65536 n (h tt)
 light false n h = refl
 
+-- the answer to a value's question, once it is known where the value stands
+atNode : Meaning → Store → Path → List Place → Bool → Value → Reply
+atNode col st p fs flag (scalar k b) = rooted st (consult col st p fs (scalar? k))
+atNode col st p fs flag (text bs) = rooted st (consult col st p fs text?)
+atNode col st p fs flag unit = rooted st (reply (val unit) 0 (reading (settle fs) st))
+atNode col st p fs flag none = rooted st (consult col st p fs option?)
+atNode col st p fs flag some = rooted st (consult col st p fs option?)
+atNode col st p fs flag (variant i) = opening fs (rooted st (consult col st p fs variant?))
+atNode col st p fs flag (seq n) = opening fs (rooted st (consult col st p fs (seq? flag)))
+atNode col st p fs flag (map n) = opening fs (rooted st (consult col st p fs (map? flag)))
+atNode col st p fs flag (tuple n) = opening fs (rooted st (tupled col st p fs n))
+
+answer-value : (col : Meaning) (st : Store) (f : Place) (fs : List Place) (flag : Bool) (v : Value) → respond col st f fs (asked flag (val v)) ≡ standing (next f) (λ p g. atNode col st p (g ∷ fs) flag v)
+unfolding atNode
+answer-value col st f fs flag (scalar k b) = refl
+answer-value col st f fs flag (text bs) = refl
+answer-value col st f fs flag unit = refl
+answer-value col st f fs flag none = refl
+answer-value col st f fs flag some = refl
+answer-value col st f fs flag (variant i) = refl
+answer-value col st f fs flag (seq n) = refl
+answer-value col st f fs flag (map n) = refl
+answer-value col st f fs flag (tuple n) = refl
+
 Answered : (input after : List ℕ) → Meaning → (ts ps es : List Entry) (p : Path) (v : Value) (st : Store) (fs : List Place) (flag : Bool) → Type 0
 Answered input after col ts ps es p v st fs flag =
-    (su : Store) × (k : ℕ) × (respond col st p fs (asked flag (val v)) ≡ reply (val v) k (reading (settle (opens p v ++ fs)) su))
+    (su : Store) × (k : ℕ) × (atNode col st p fs flag v ≡ reply (val v) k (reading (settle (opens p v ++ fs)) su))
     × (hearing input (val v) k ≡ val v) × Kept input after col ts (ps ++ leaves p v) es su
 
 -- the root has its record
@@ -227,7 +251,7 @@ is-rooted st r e = cond-true (st .rooted) r _ e
 -- a value call's question gets its value
 answered : (input after : List ℕ) (col : Meaning) (law : Lawful col) (ts ps es : List Entry) (p : Path) (v : Value) (st : Store) (fs : List Place) (flag : Bool)
     → Facts ts → Kept input after col ts ps (leaves p v ++ es) st → Ready ts ps p → (T flag → extent v ≤ 65536) → tooMany (length (opens p v ++ fs)) ≡ false → Answered input after col ts ps es p v st fs flag
-unfolding Answered Touched Housed
+unfolding Answered Touched Housed atNode
 answered input after col law ts ps es p (scalar k b) st fs flag facts kept r h d =
     let t : Touched input after col ts ps es p (scalar k b) st = touch input after col law ts ps es p (scalar k b) st facts kept r refl in
     (_, t .0 .texts p, is-rooted st _ (kept .rooted) ∙ rw (t .1, d) refl, refl, kept-plain input after col ts ps es p (scalar k b) (t .0) (t .2))
@@ -338,7 +362,7 @@ replay-value : (input after : List ℕ) → (col : Meaning) (law : Lawful col) (
     → ((o : Path) → Owing o f n) → ((o : Path) → Balanced o (f ∷ fs) (tell v fs n))
     → Onward (tell v fs n) (λ gs. Complete gs cs)
     → Balance ps (f ∷ fs) → Kept input after col ts ps (gathered (tell v fs n) (λ gs. trace gs cs)) st → (T flag → extent v ≤ 65536) → Asked qs cs
-    → going input (onward col st fs (asked flag (val v)) n) (λ s. replay col input s qs) ≡ heard (val v ∷ cs) after
+    → going input (standing n (λ p g. atNode col st p (g ∷ fs) flag v)) (λ s. replay col input s qs) ≡ heard (val v ∷ cs) after
 unfolding Replaying Answered
 replay-value input after col law ts cs facts ih v f fs ps st flag qs nowhere owing turned whole bal kept small asks′ = absurd whole
 replay-value input after col law ts cs facts ih v f fs ps st flag qs (there p g) owing turned whole bal kept small asks′ =
@@ -351,25 +375,13 @@ replay-value input after col law ts cs facts ih v f fs ps st flag qs (there p g)
         → ((o : Path) → Balanced o (f ∷ fs) (cond b (stays Depth) (goes (leaves p v) (settle (opens p v ++ g ∷ fs)))))
         → Onward (cond b (stays Depth) (goes (leaves p v) (settle (opens p v ++ g ∷ fs)))) (λ hs. Complete hs cs)
         → Kept input after col ts ps (gathered (cond b (stays Depth) (goes (leaves p v) (settle (opens p v ++ g ∷ fs)))) (λ hs. trace hs cs)) st
-        → going input (respond col st p (g ∷ fs) (asked flag (val v))) (λ s. replay col input s qs) ≡ heard (val v ∷ cs) after
+        → going input (atNode col st p (g ∷ fs) flag v) (λ s. replay col input s qs) ≡ heard (val v ∷ cs) after
     go true d turned′ whole′ kept′ = absurd whole′
     go false d turned′ whole′ kept′ =
         let r : Ready ts ps p = ready-at ts ps (leaves p v ++ trace (settle (opens p v ++ g ∷ fs)) cs) p (f ∷ fs) facts (kept′ .whole) bal owe in
         let a : Answered input after col ts ps (trace (settle (opens p v ++ g ∷ fs)) cs) p v st (g ∷ fs) flag =
         answered input after col law ts ps (trace (settle (opens p v ++ g ∷ fs)) cs) p v st (g ∷ fs) flag facts kept′ r small d in
         rw (a .2, a .3) (ap (also (val v)) (ih (settle (opens p v ++ g ∷ fs)) (ps ++ leaves p v) (a .0) qs whole′ (balance-on ps (leaves p v) (f ∷ fs) (settle (opens p v ++ g ∷ fs)) bal turned′) (a .4) asks′))
-
--- a value's question asks what stands next
-answer-value : (col : Meaning) (st : Store) (f : Place) (fs : List Place) (flag : Bool) (v : Value) → answerAt col st (f ∷ fs) (asked flag (val v)) ≡ onward col st fs (asked flag (val v)) (next f)
-answer-value col st f fs flag (scalar k b) = refl
-answer-value col st f fs flag (text bs) = refl
-answer-value col st f fs flag unit = refl
-answer-value col st f fs flag none = refl
-answer-value col st f fs flag some = refl
-answer-value col st f fs flag (variant i) = refl
-answer-value col st f fs flag (seq n) = refl
-answer-value col st f fs flag (map n) = refl
-answer-value col st f fs flag (tuple n) = refl
 
 replaying : (input after : List ℕ) → (col : Meaning) (law : Lawful col) (ts : List Entry) → Facts ts → (cs : List Call) → Replaying input after col ts cs
 unfolding Replaying

@@ -6,7 +6,6 @@ use lib.Dec.{eqb, ltb, leb}
 use lib.ListN.{length}
 use Rattle.column.specs.Meaning.{Meaning}
 use Rattle.document.specs.declared.scalars.Scalar.{Scalar}
-use Rattle.document.specs.declared.scalars.Scalar.the-variants as scalars
 use Rattle.document.specs.declared.refusals.Refusal.{Refusal}
 use Rattle.document.specs.declared.refusals.Refusal.the-variants as refusals
 use Rattle.document.specs.declared.questions.Question.{Question}
@@ -16,29 +15,13 @@ use Rattle.document.specs.Nodes.{Path, root, _▹_, alt, same, demand}
 use Rattle.document.specs.Places.{Place, Next, nowhere, there, next, full, opens, settle, start, tooMany}
 use Rattle.document.specs.Fetch.{Supply, supply, Fetched, fetched, denied, fetch, columnsOf}
 use Rattle.document.specs.Tables.{takes, usableNodes, usableCells}
+use Rattle.document.specs.Verdict.{kindNumber}
 
 -- ---- kinds, as the reader tells them apart: signed and unsigned numbers of one width are one kind
 
-abbrev pub scalarCode : Scalar → ℕ
-scalarCode scalars.Bool = 0
-scalarCode scalars.U8 = 1
-scalarCode scalars.U16 = 2
-scalarCode scalars.U32 = 3
-scalarCode scalars.U64 = 4
-scalarCode scalars.I8 = 1
-scalarCode scalars.I16 = 2
-scalarCode scalars.I32 = 3
-scalarCode scalars.I64 = 4
-scalarCode scalars.F32 = 5
-
+-- kinds by number (see `kindNumber`), the signed numbers as the unsigned ones four before them, and what comes after likewise
 abbrev pub code : Kind → ℕ
-code (SCALAR k) = scalarCode k
-code TEXT = 6
-code SEQ = 7
-code MAP = 8
-code ENUM = 9
-code UNIT = 10
-code (TUPLE n) = 11 + n
+code K = cond (ltb (kindNumber K) 5) (kindNumber K) (kindNumber K - 4)
 
 abbrev pub kin : Kind → Kind → Bool
 kin J K = eqb (code J) (code K)
@@ -211,40 +194,29 @@ opening fs r = cond (tooMany (suc (length fs))) (refuse refusals.Depth) r
 abbrev pub rooted : Store → Reply → Reply
 rooted st r = cond (st .rooted) r (refuse refusals.Nodes)
 
--- a question at p, with the places once this value is counted. A unit and a `tuple 1` ask nothing of a node
-abbrev pub respond : Meaning → Store → Path → List Place → Question → Reply
-respond col st p fs (questions.Scalar k) = rooted st (consult col st p fs (scalar? k))
-respond col st p fs questions.Text = rooted st (consult col st p fs text?)
-respond col st p fs questions.Unit = rooted st (reply (val unit) 0 (reading (settle fs) st))
-respond col st p fs questions.Option = rooted st (consult col st p fs option?)
-respond col st p fs questions.Variant = opening fs (rooted st (consult col st p fs variant?))
-respond col st p fs (questions.Seq flag) = opening fs (rooted st (consult col st p fs (seq? flag)))
-respond col st p fs (questions.Map flag) = opening fs (rooted st (consult col st p fs (map? flag)))
-respond col st p fs (questions.Tuple zero) = opening fs (rooted st (consult col st p fs (tuple? 0)))
-respond col st p fs (questions.Tuple (suc zero)) = opening fs (rooted st (reply (val (tuple 1)) 0 (reading (settle (opens p (tuple 1) ++ fs)) st)))
-respond col st p fs (questions.Tuple (suc (suc n))) = opening fs (rooted st (consult col st p fs (tuple? (suc (suc n)))))
-respond col st p fs questions.End = refuse refusals.Count
+abbrev pub tupled : Meaning → Store → Path → List Place → ℕ → Reply
+tupled col st p fs zero = consult col st p fs (tuple? 0)
+tupled col st p fs (suc zero) = reply (val (tuple 1)) 0 (reading (settle (opens p (tuple 1) ++ fs)) st)
+tupled col st p fs (suc (suc n)) = consult col st p fs (tuple? (suc (suc n)))
 
--- where the next value stands decides, if there is one
-abbrev pub onward : Meaning → Store → List Place → Question → Next → Reply
-onward col st fs q nowhere = refuse refusals.Count
-onward col st fs q (there p g) = respond col st p (g ∷ fs) q
+-- where the next value stands, if there is one, with the place once it is counted
+abbrev pub standing : Next → (Path → Place → Reply) → Reply
+standing nowhere act = refuse refusals.Count
+standing (there p g) act = act p g
 
-abbrev pub closed : Store → Place → List Place → Reply
-closed st f fs = cond (full f) (reply end 0 (reading (settle fs) st)) (refuse refusals.Count)
-
-abbrev pub answerAt : Meaning → Store → List Place → Question → Reply
-answerAt col st [] q = refuse refusals.Complete
-answerAt col st (f ∷ fs) (questions.Scalar k) = onward col st fs (questions.Scalar k) (next f)
-answerAt col st (f ∷ fs) questions.Text = onward col st fs questions.Text (next f)
-answerAt col st (f ∷ fs) questions.Unit = onward col st fs questions.Unit (next f)
-answerAt col st (f ∷ fs) questions.Option = onward col st fs questions.Option (next f)
-answerAt col st (f ∷ fs) questions.Variant = onward col st fs questions.Variant (next f)
-answerAt col st (f ∷ fs) (questions.Seq flag) = onward col st fs (questions.Seq flag) (next f)
-answerAt col st (f ∷ fs) (questions.Map flag) = onward col st fs (questions.Map flag) (next f)
-answerAt col st (f ∷ fs) (questions.Tuple n) = onward col st fs (questions.Tuple n) (next f)
-answerAt col st (f ∷ fs) questions.End = closed st f fs
+-- a question with f as the innermost place. A unit and a `tuple 1` ask nothing of a node
+abbrev pub respond : Meaning → Store → Place → List Place → Question → Reply
+respond col st f fs (questions.Scalar k) = standing (next f) (λ p g. rooted st (consult col st p (g ∷ fs) (scalar? k)))
+respond col st f fs questions.Text = standing (next f) (λ p g. rooted st (consult col st p (g ∷ fs) text?))
+respond col st f fs questions.Unit = standing (next f) (λ p g. rooted st (reply (val unit) 0 (reading (settle (g ∷ fs)) st)))
+respond col st f fs questions.Option = standing (next f) (λ p g. rooted st (consult col st p (g ∷ fs) option?))
+respond col st f fs questions.Variant = standing (next f) (λ p g. opening (g ∷ fs) (rooted st (consult col st p (g ∷ fs) variant?)))
+respond col st f fs (questions.Seq flag) = standing (next f) (λ p g. opening (g ∷ fs) (rooted st (consult col st p (g ∷ fs) (seq? flag))))
+respond col st f fs (questions.Map flag) = standing (next f) (λ p g. opening (g ∷ fs) (rooted st (consult col st p (g ∷ fs) (map? flag))))
+respond col st f fs (questions.Tuple n) = standing (next f) (λ p g. opening (g ∷ fs) (rooted st (tupled col st p (g ∷ fs) n)))
+respond col st f fs questions.End = cond (full f) (reply end 0 (reading (settle fs) st)) (refuse refusals.Count)
 
 -- the answer to a question
-abbrev pub answer : Meaning → Reading → Question → Reply
-answer col r q = answerAt col (r .store) (r .places) q
+abbrev pub answer : Meaning → Store → List Place → Question → Reply
+answer col st [] q = refuse refusals.Complete
+answer col st (f ∷ fs) q = respond col st f fs q

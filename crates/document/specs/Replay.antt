@@ -43,7 +43,7 @@ going input (refuse r) more = stopped r
 -- the questions in turn, over this input
 abbrev pub replay : Meaning → List ℕ → Reading → List Question → Replay
 replay col input r [] = ending (r .places) (r .store .input)
-replay col input r (q ∷ qs) = going input (answer col r q) (λ s. replay col input s qs)
+replay col input r (q ∷ qs) = going input (answer col (r .store) (r .places) q) (λ s. replay col input s qs)
 
 -- finish: no byte may be left
 abbrev pub finish : Replay → Replay

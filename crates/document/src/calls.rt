@@ -2,6 +2,7 @@
 
 ghost use mathlib.Core.Path.{_≡_};
 ghost use Rattle.document.specs.Said.{said, asked};
+ghost use Rattle.document.specs.Verdict.{Real};
 use crate::questions::Question;
 use crate::scalars::Scalar;
 
@@ -33,7 +34,8 @@ pub enum Call<'a> {
 impl Call<'_> {
     /// The question that asks for this call; a seq's and a map's carries the flag.
     pub fn question(self, no_size: bool) -> Question
-        ensures { λ r. ⌜ r ≡ asked «no_size» (said (self .entry)) ⌝ }
+        ensures answer { λ r. ⌜ r ≡ asked «no_size» (said (self .entry)) ⌝ }
+        ensures real { λ _. ⌜ Real (said (self .entry)) ⌝ }
     {
         match self {
             Call::Bool(_) => Question::Scalar(Scalar::Bool),
