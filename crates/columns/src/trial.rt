@@ -19,7 +19,11 @@ pub struct Trial {
 
 impl Trial {
     /// What is read is what was packed, whatever the kind.
-    pub(crate) fn run<C: Column>(heap: Global, kind: &C, column: &TableColumn) -> Result<Trial, PackError>
+    pub(crate) fn run<C: Column>(
+        heap: Global,
+        kind: &C,
+        column: &TableColumn,
+    ) -> Result<Trial, PackError>
         ensures bytes { λ r. ⌜ made r (λ trial. vec-items (trial .bytes) ≡ C·Column .meaning (now (kind .entry)) .image (now (column .entry) .width) (vec-items (now (column .entry) .values))) ⌝ }
         ensures values { λ r. ⌜ made r (λ trial. vec-items (trial .values) ≡ vec-items (now (column .entry) .values)) ⌝ }
     {

@@ -16,9 +16,9 @@ use Rattle.document.specs.Calls.{str, Kind, SCALAR, TEXT, SEQ, MAP, ENUM, UNIT
 use Rattle.document.specs.Entries.{Entry, entry, at, leaves}
 use Rattle.document.specs.Nodes.{Path, root, _▹_, Step, alt, same, demand, demands}
 use Rattle.document.specs.Places.{Place, only, Next, nowhere, there, next, full, opens, settle, Turn, stays, goes, tooMany, tell, turn, start, Complete, Onward}
-use Rattle.document.specs.Reader.{Store, rooted, opened, withChild, taken, letterCount, housed, child, Node, fresh, ready, put, spread, Look, found, look, oversized, respond, consult, opening, tupled, standing, scalar?, text?, option?, variant?, seq?, map?, reply, Reply, refuse, reading, Reading, begin, unread}
+use Rattle.document.specs.Reader.{Store, rooted, opened, withChild, taken, letterCount, recorded, child, Node, fresh, ready, put, spread, Look, found, look, oversized, respond, consult, opening, tupled, standing, scalar?, text?, option?, variant?, seq?, map?, reply, Reply, refuse, reading, Reading, begin, unread}
 use Rattle.document.specs.Replay.{replay, heard, Replay, going, also, hearing}
-use Rattle.document.specs.Tables.{cells, takes, Kid, kidless, kid, kidOf, newKid, withKid, kids, recordsOf, cellsOf, usableNodes, usableCells}
+use Rattle.document.specs.Tables.{cells, takes, Branch, unbranched, branch, branchOf, newBranch, withBranch, branches, recordsOf, cellsOf, usableNodes, usableCells}
 use Rattle.document.specs.Theorems.{Asks, Asked}
 use Rattle.document.specs.Trace.{gathered, trace}
 use Rattle.document.specs.Verdict.{Sizes}
@@ -31,7 +31,7 @@ use Rattle.document.proofs.Paths.{same-self, same-true, at-append, all-append}
 use Rattle.document.proofs.Count.{here, owed, owes, due, Owing, next-owed, Balanced, turn-balanced, due-append, due-none, counted, counted-root}
 use Rattle.document.proofs.Texts.{Stands, texts-new, seen-touched, standing-on, standing-unit}
 use Rattle.document.proofs.Between.{input-new, at-here, unitKind, touched, origin, nodesAt, unseen, remaining, Whole, whole-on, look-new, nodes-new, look-seen, nodes-seen, nodes-unit, remaining-unit, remaining-seen, whole-first, isNil}
-use Rattle.document.proofs.Taking.{has, has-whole, slotsLeft, recordsLeft, slots-step, records-step, kids-same, kids-credit, cells-by-node}
+use Rattle.document.proofs.Taking.{has, has-whole, slotsLeft, recordsLeft, slots-step, records-step, branches-same, branches-credit, cells-by-node}
 
 -- what holds of all entries
 record Facts (ts : List Entry) : Type 0 where
@@ -69,8 +69,8 @@ record Partly (input after : List ℕ) (col : Meaning) (ts ps es : List Entry) (
   standing : (q : Path) → touched (at q (ps ++ entry p v ∷ [])) ≡ true → Stands input (put p (st .texts p + letterCount (cell v)) (st .texts) q) (each cell (at q es))
   slots-do : slotsLeft ts (ps ++ entry p v ∷ []) es ≤ st .slots
   credit : (nk : Path → Bool) → ((q : Path) → same p q ≡ false → (i : ℕ) → nk (q ▹ alt i) ≡ st .made (q ▹ alt i))
-      → kids (λ i. nk (p ▹ alt i)) (at p es) ≤ kids (λ i. st .made (p ▹ alt i)) (v ∷ at p es)
-      → recordsLeft ts (ps ++ entry p v ∷ []) es nk + kids (λ i. st .made (p ▹ alt i)) (v ∷ at p es) ≤ kids (λ i. nk (p ▹ alt i)) (at p es) + st .records
+      → branches (λ i. nk (p ▹ alt i)) (at p es) ≤ branches (λ i. st .made (p ▹ alt i)) (v ∷ at p es)
+      → recordsLeft ts (ps ++ entry p v ∷ []) es nk + branches (λ i. st .made (p ▹ alt i)) (v ∷ at p es) ≤ branches (λ i. nk (p ▹ alt i)) (at p es) + st .records
 
 Touched : (input after : List ℕ) → Meaning → (ts ps es : List Entry) (p : Path) (v : Value) (st : Store) → Type 0
 Touched input after col ts ps es p v st = (su : Store) × (look col p (kind v) st ≡ found (cell v ∷ each cell (at p es)) su) × Partly input after col ts ps es p v su
@@ -90,9 +90,9 @@ touch input after col law ts ps es p v st facts kept ready′ f = go (at p ps) r
     slots = omega (arith, slots-step ts ps es p v member, kept .slots-do)
 
     records : (nk : Path → Bool) → ((q : Path) → same p q ≡ false → (i : ℕ) → nk (q ▹ alt i) ≡ st .made (q ▹ alt i))
-        → kids (λ i. nk (p ▹ alt i)) (at p es) ≤ kids (λ i. st .made (p ▹ alt i)) (v ∷ at p es)
-        → recordsLeft ts (ps ++ entry p v ∷ []) es nk + cond (unseen ps p) (takes (kind v)) 0 + kids (λ i. st .made (p ▹ alt i)) (v ∷ at p es)
-        ≤ kids (λ i. nk (p ▹ alt i)) (at p es) + st .records
+        → branches (λ i. nk (p ▹ alt i)) (at p es) ≤ branches (λ i. st .made (p ▹ alt i)) (v ∷ at p es)
+        → recordsLeft ts (ps ++ entry p v ∷ []) es nk + cond (unseen ps p) (takes (kind v)) 0 + branches (λ i. st .made (p ▹ alt i)) (v ∷ at p es)
+        ≤ branches (λ i. nk (p ▹ alt i)) (at p es) + st .records
     records nk off less = omega (arith, records-step ts ps es p v (st .made) nk member off less, kept .records-do)
 
     go : (xs : List Value) → at p ps ≡ xs → Touched input after col ts ps es p v st
@@ -102,7 +102,7 @@ touch input after col law ts ps es p v st facts kept ready′ f = go (at p ps) r
         let u : unseen ps p ≡ true = ap isNil e in
         let s : slotsLeft ts (ps ++ entry p v ∷ []) es + total cells (at p ts) ≤ st .slots = rw w (rw u at slots) in
         let r : takes (kind v) ≤ st .records =
-        omega (arith, rw u at (records (st .made) (λ q o i. refl) (kids-credit (λ i. st .made (p ▹ alt i)) (kidOf v) (at p es))), kids-credit (λ i. st .made (p ▹ alt i)) (kidOf v) (at p es)) in
+        omega (arith, rw u at (records (st .made) (λ q o i. refl) (branches-credit (λ i. st .made (p ▹ alt i)) (branchOf v) (at p es))), branches-credit (λ i. st .made (p ▹ alt i)) (branchOf v) (at p es)) in
         let rest : List ℕ = remaining col ts (ps ++ entry p v ∷ []) es ++ after in
         let su : Store = opened p (kind v) (each cell (at p ts)) (supply (st .slots - total cells (at p ts)) rest) st in
         let in′ : st .input ≡ columns col (kind v) (each cell (at p ts)) ++ rest = kept .left ∙ input-new col ts ps es p v after (kept .whole) e in
@@ -148,7 +148,7 @@ touch input after col law ts ps es p v st facts kept ready′ f = go (at p ps) r
 kept-plain : (input after : List ℕ) (col : Meaning) (ts ps es : List Entry) (p : Path) (v : Value) (st : Store) → Partly input after col ts ps es p v st
     → Kept input after col ts (ps ++ entry p v ∷ []) es (taken p (kind v) (cell v) (each cell (at p es)) st)
 kept-plain input after col ts ps es p v st t =
-    let k : kids (λ i. st .made (p ▹ alt i)) (at p es) ≤ kids (λ i. st .made (p ▹ alt i)) (v ∷ at p es) = kids-credit (λ i. st .made (p ▹ alt i)) (kidOf v) (at p es) in
+    let k : branches (λ i. st .made (p ▹ alt i)) (at p es) ≤ branches (λ i. st .made (p ▹ alt i)) (v ∷ at p es) = branches-credit (λ i. st .made (p ▹ alt i)) (branchOf v) (at p es) in
     record {
       whole = t .whole;
       nodes = t .nodes;
@@ -160,32 +160,32 @@ kept-plain input after col ts ps es p v st t =
       records-do = omega (arith, t .credit (st .made) (λ q o i. refl) k);
     }
 
-Housed : (input after : List ℕ) → Meaning → (ts ps es : List Entry) (p : Path) (v : Value) (fs : List Place) (st : Store) (i : ℕ) → Type 0
-Housed input after col ts ps es p v fs st i =
-    (su : Store) × (housed (val v) (st .texts p) fs (taken p (kind v) (cell v) (each cell (at p es)) st) (child (p ▹ alt i)) ≡ reply (val v) (st .texts p) (reading fs su))
+Recorded : (input after : List ℕ) → Meaning → (ts ps es : List Entry) (p : Path) (v : Value) (fs : List Place) (st : Store) (i : ℕ) → Type 0
+Recorded input after col ts ps es p v fs st i =
+    (su : Store) × (recorded (val v) (st .texts p) fs (taken p (kind v) (cell v) (each cell (at p es)) st) (child (p ▹ alt i)) ≡ reply (val v) (st .texts p) (reading fs su))
     × Kept input after col ts (ps ++ entry p v ∷ []) es su
 
 -- a child takes one if it is new
-kept-kid : (input after : List ℕ) (col : Meaning) (ts ps es : List Entry) (p : Path) (v : Value) (fs : List Place) (st : Store) (i : ℕ) → kidOf v ≡ kid i → Partly input after col ts ps es p v st
-    → Housed input after col ts ps es p v fs st i
-unfolding Housed
-kept-kid input after col ts ps es p v fs st i k t = go (st .made (p ▹ alt i)) refl
+kept-branch : (input after : List ℕ) (col : Meaning) (ts ps es : List Entry) (p : Path) (v : Value) (fs : List Place) (st : Store) (i : ℕ) → branchOf v ≡ branch i → Partly input after col ts ps es p v st
+    → Recorded input after col ts ps es p v fs st i
+unfolding Recorded
+kept-branch input after col ts ps es p v fs st i k t = go (st .made (p ▹ alt i)) refl
   where
     off : (q : Path) → same p q ≡ false → (j : ℕ) → put (p ▹ alt i) true (st .made) (q ▹ alt j) ≡ st .made (q ▹ alt j)
     off q e j = rw e refl
 
-    on : (j : ℕ) → put (p ▹ alt i) true (st .made) (p ▹ alt j) ≡ withKid (λ m. st .made (p ▹ alt m)) (kid i) j
+    on : (j : ℕ) → put (p ▹ alt i) true (st .made) (p ▹ alt j) ≡ withBranch (λ m. st .made (p ▹ alt m)) (branch i) j
     on j = rw (same-self p) refl
 
-    after-kid : kids (λ j. put (p ▹ alt i) true (st .made) (p ▹ alt j)) (at p es) ≡ kids (withKid (λ m. st .made (p ▹ alt m)) (kid i)) (at p es)
-    after-kid = kids-same (λ j. put (p ▹ alt i) true (st .made) (p ▹ alt j)) (withKid (λ m. st .made (p ▹ alt m)) (kid i)) on (at p es)
+    after-branch : branches (λ j. put (p ▹ alt i) true (st .made) (p ▹ alt j)) (at p es) ≡ branches (withBranch (λ m. st .made (p ▹ alt m)) (branch i)) (at p es)
+    after-branch = branches-same (λ j. put (p ▹ alt i) true (st .made) (p ▹ alt j)) (withBranch (λ m. st .made (p ▹ alt m)) (branch i)) on (at p es)
 
-    go : (b : Bool) → st .made (p ▹ alt i) ≡ b → Housed input after col ts ps es p v fs st i
+    go : (b : Bool) → st .made (p ▹ alt i) ≡ b → Recorded input after col ts ps es p v fs st i
     go true e = (taken p (kind v) (cell v) (each cell (at p es)) st, rw e refl, kept-plain input after col ts ps es p v st t)
     go false e =
-        let one : kids (λ j. st .made (p ▹ alt j)) (v ∷ at p es) ≡ 1 + kids (withKid (λ m. st .made (p ▹ alt m)) (kid i)) (at p es) = rw (k, e) refl in
+        let one : branches (λ j. st .made (p ▹ alt j)) (v ∷ at p es) ≡ 1 + branches (withBranch (λ m. st .made (p ▹ alt m)) (branch i)) (at p es) = rw (k, e) refl in
         let room : recordsLeft ts (ps ++ entry p v ∷ []) es (put (p ▹ alt i) true (st .made)) + 1 ≤ st .records =
-        omega (arith, one, after-kid, t .credit (put (p ▹ alt i) true (st .made)) off (omega (arith, one, after-kid))) in (
+        omega (arith, one, after-branch, t .credit (put (p ▹ alt i) true (st .made)) off (omega (arith, one, after-branch))) in (
           withChild (p ▹ alt i) (taken p (kind v) (cell v) (each cell (at p es)) st),
           rw (e, le-leb 1 (st .records) (omega arith)) refl,
           record { whole = t .whole; nodes = t .nodes; rooted = t .rooted; left = t .left; tail = t .tail; standing = t .standing; slots-do = t .slots-do; records-do = omega arith },
@@ -208,8 +208,8 @@ pass input after col ts ps es p st facts kept =
     member : has p (firsts ts) ≡ true
     member = has-whole ts ps es p unit (kept .whole p)
 
-    less : kids (λ i. st .made (p ▹ alt i)) (at p es) ≤ kids (λ i. st .made (p ▹ alt i)) (unit ∷ at p es)
-    less = kids-credit (λ i. st .made (p ▹ alt i)) kidless (at p es)
+    less : branches (λ i. st .made (p ▹ alt i)) (at p es) ≤ branches (λ i. st .made (p ▹ alt i)) (unit ∷ at p es)
+    less = branches-credit (λ i. st .made (p ▹ alt i)) unbranched (at p es)
 
 light : (flag : Bool) (n : ℕ) → (T flag → n ≤ 65536) → oversized flag n ≡ false
 light true n h = le-ltb 65536 n (h tt)
@@ -251,7 +251,7 @@ is-rooted st r e = cond-true (st .rooted) r _ e
 -- a value call's question gets its value
 answered : (input after : List ℕ) (col : Meaning) (law : Lawful col) (ts ps es : List Entry) (p : Path) (v : Value) (st : Store) (fs : List Place) (flag : Bool)
     → Facts ts → Kept input after col ts ps (leaves p v ++ es) st → Ready ts ps p → (T flag → extent v ≤ 65536) → tooMany (length (opens p v ++ fs)) ≡ false → Answered input after col ts ps es p v st fs flag
-unfolding Answered Touched Housed atNode
+unfolding Answered Touched Recorded atNode
 answered input after col law ts ps es p (scalar k b) st fs flag facts kept r h d =
     let t : Touched input after col ts ps es p (scalar k b) st = touch input after col law ts ps es p (scalar k b) st facts kept r refl in
     (_, t .0 .texts p, is-rooted st _ (kept .rooted) ∙ rw (t .1, d) refl, refl, kept-plain input after col ts ps es p (scalar k b) (t .0) (t .2))
@@ -270,11 +270,11 @@ answered input after col law ts ps es p none st fs flag facts kept r h d =
     )
 answered input after col law ts ps es p some st fs flag facts kept r h d =
     let t : Touched input after col ts ps es p some st = touch input after col law ts ps es p some st facts kept r refl in
-    let k : Housed input after col ts ps es p some (only (p ▹ alt 1) ∷ fs) (t .0) 1 = kept-kid input after col ts ps es p some (only (p ▹ alt 1) ∷ fs) (t .0) 1 refl (t .2) in
+    let k : Recorded input after col ts ps es p some (only (p ▹ alt 1) ∷ fs) (t .0) 1 = kept-branch input after col ts ps es p some (only (p ▹ alt 1) ∷ fs) (t .0) 1 refl (t .2) in
     (k .0, t .0 .texts p, is-rooted st _ (kept .rooted) ∙ rw (t .1, d) (k .1), refl, k .2)
 answered input after col law ts ps es p (variant i) st fs flag facts kept r h d =
     let t : Touched input after col ts ps es p (variant i) st = touch input after col law ts ps es p (variant i) st facts kept r refl in
-    let k : Housed input after col ts ps es p (variant i) (only (p ▹ alt i) ∷ fs) (t .0) i = kept-kid input after col ts ps es p (variant i) (only (p ▹ alt i) ∷ fs) (t .0) i refl (t .2) in
+    let k : Recorded input after col ts ps es p (variant i) (only (p ▹ alt i) ∷ fs) (t .0) i = kept-branch input after col ts ps es p (variant i) (only (p ▹ alt i) ∷ fs) (t .0) i refl (t .2) in
     (k .0, t .0 .texts p, rw d (is-rooted st _ (kept .rooted) ∙ rw (t .1, d) (k .1)), refl, k .2)
 answered input after col law ts ps es p (seq n) st fs flag facts kept r h d =
     let t : Touched input after col ts ps es p (seq n) st = touch input after col law ts ps es p (seq n) st facts kept r refl in

@@ -12,7 +12,7 @@ use Rattle.document.specs.Bytes.{keep, others, firsts}
 use Rattle.document.specs.Calls.{Value, unit, kind, total}
 use Rattle.document.specs.Entries.{Entry, entry, at}
 use Rattle.document.specs.Nodes.{Path, root, _▹_, alt, same}
-use Rattle.document.specs.Tables.{cells, cellsOf, takes, Kid, kidless, kid, kidOf, newKid, withKid, kids, marks}
+use Rattle.document.specs.Tables.{cells, cellsOf, takes, Branch, unbranched, branch, branchOf, newBranch, withBranch, branches, marks}
 use Rattle.std.specs.shelf.Lists.{All}
 use Rattle.document.proofs.Paths.{same-self, same-true, at-append}
 use Rattle.document.proofs.Between.{unseen, isNil, not-nil, at-here, at-past, at-on, at-off}
@@ -60,19 +60,19 @@ has-firsts p (d ∷ es) v vs e = go (same (d .node) p) refl e (has-firsts p es v
 
 -- ---- new indices
 
-pub kids-same : (f g : ℕ → Bool) → ((i : ℕ) → f i ≡ g i) → (vs : List Value) → kids f vs ≡ kids g vs
-kids-same f g e [] = refl
-kids-same f g e (v ∷ vs) = ap₂ _+_ (new (kidOf v)) (kids-same (withKid f (kidOf v)) (withKid g (kidOf v)) (with′ (kidOf v)) vs)
+pub branches-same : (f g : ℕ → Bool) → ((i : ℕ) → f i ≡ g i) → (vs : List Value) → branches f vs ≡ branches g vs
+branches-same f g e [] = refl
+branches-same f g e (v ∷ vs) = ap₂ _+_ (new (branchOf v)) (branches-same (withBranch f (branchOf v)) (withBranch g (branchOf v)) (with′ (branchOf v)) vs)
   where
-    new : (k : Kid) → newKid f k ≡ newKid g k
-    new kidless = refl
-    new (kid i) = ap (λ b. cond {A = ℕ} b 0 1) (e i)
+    new : (k : Branch) → newBranch f k ≡ newBranch g k
+    new unbranched = refl
+    new (branch i) = ap (λ b. cond {A = ℕ} b 0 1) (e i)
 
-    with′ : (k : Kid) (i : ℕ) → withKid f k i ≡ withKid g k i
-    with′ kidless i = e i
-    with′ (kid j) i = ap (λ b. cond (eqb j i) true b) (e i)
+    with′ : (k : Branch) (i : ℕ) → withBranch f k i ≡ withBranch g k i
+    with′ unbranched i = e i
+    with′ (branch j) i = ap (λ b. cond (eqb j i) true b) (e i)
 
-kid-order : (f : ℕ → Bool) (i j k : ℕ) → withKid (withKid f (kid j)) (kid i) k ≡ withKid (withKid f (kid i)) (kid j) k
+kid-order : (f : ℕ → Bool) (i j k : ℕ) → withBranch (withBranch f (branch j)) (branch i) k ≡ withBranch (withBranch f (branch i)) (branch j) k
 kid-order f i j k = go (eqb i k) (eqb j k)
   where
     go : (a b : Bool) → cond a true (cond b true (f k)) ≡ cond b true (cond a true (f k))
@@ -81,19 +81,19 @@ kid-order f i j k = go (eqb i k) (eqb j k)
     go false true = refl
     go false false = refl
 
-kid-pair : (f : ℕ → Bool) (i j : ℕ) → newKid f (kid j) + newKid (withKid f (kid j)) (kid i) ≤ newKid f (kid i) + newKid (withKid f (kid i)) (kid j)
+kid-pair : (f : ℕ → Bool) (i j : ℕ) → newBranch f (branch j) + newBranch (withBranch f (branch j)) (branch i) ≤ newBranch f (branch i) + newBranch (withBranch f (branch i)) (branch j)
 kid-pair f i j = grind (arith, tells)
 
 -- an index that is there already saves one record at the most
-pub kids-credit : (f : ℕ → Bool) (k : Kid) (vs : List Value) → kids f vs ≤ newKid f k + kids (withKid f k) vs
-kids-credit f kidless vs = omega arith
-kids-credit f (kid i) [] = omega arith
-kids-credit f (kid i) (v ∷ vs) = go (kidOf v) (λ g. kids-credit g (kid i) vs)
+pub branches-credit : (f : ℕ → Bool) (k : Branch) (vs : List Value) → branches f vs ≤ newBranch f k + branches (withBranch f k) vs
+branches-credit f unbranched vs = omega arith
+branches-credit f (branch i) [] = omega arith
+branches-credit f (branch i) (v ∷ vs) = go (branchOf v) (λ g. branches-credit g (branch i) vs)
   where
-    go : (k : Kid) → ((g : ℕ → Bool) → kids g vs ≤ newKid g (kid i) + kids (withKid g (kid i)) vs) → newKid f k + kids (withKid f k) vs ≤ newKid f (kid i) + (newKid (withKid f (kid i)) k + kids (withKid (withKid f (kid i)) k) vs)
-    go kidless ih = omega (arith, ih f)
-    go (kid j) ih =
-        omega (arith, kid-pair f i j, ih (withKid f (kid j)), kids-same (withKid (withKid f (kid j)) (kid i)) (withKid (withKid f (kid i)) (kid j)) (kid-order f i j) vs)
+    go : (k : Branch) → ((g : ℕ → Bool) → branches g vs ≤ newBranch g (branch i) + branches (withBranch g (branch i)) vs) → newBranch f k + branches (withBranch f k) vs ≤ newBranch f (branch i) + (newBranch (withBranch f (branch i)) k + branches (withBranch (withBranch f (branch i)) k) vs)
+    go unbranched ih = omega (arith, ih f)
+    go (branch j) ih =
+        omega (arith, kid-pair f i j, ih (withBranch f (branch j)), branches-same (withBranch (withBranch f (branch j)) (branch i)) (withBranch (withBranch f (branch i)) (branch j)) (kid-order f i j) vs)
 
 -- ---- what is still to be taken
 
@@ -101,7 +101,7 @@ abbrev pub slotNeed : List Entry → List Entry → Path → ℕ
 slotNeed ps es q = cond (unseen ps q) (total cells (at q es)) 0
 
 abbrev pub recordNeed : List Entry → List Entry → (Path → Bool) → Path → ℕ
-recordNeed ps es mk q = cond (unseen ps q) (marks (at q es)) 0 + kids (λ i. mk (q ▹ alt i)) (at q es)
+recordNeed ps es mk q = cond (unseen ps q) (marks (at q es)) 0 + branches (λ i. mk (q ▹ alt i)) (at q es)
 
 abbrev pub slotsLeft : List Entry → List Entry → List Entry → ℕ
 slotsLeft ts ps es = total (slotNeed ps es) (firsts ts)
@@ -141,19 +141,19 @@ slots-step ts ps es p v has′ =
 
 pub records-step : (ts ps es : List Entry) (p : Path) (v : Value) (mk nk : Path → Bool) → has p (firsts ts) ≡ true
     → ((q : Path) → same p q ≡ false → (i : ℕ) → nk (q ▹ alt i) ≡ mk (q ▹ alt i))
-    → kids (λ i. nk (p ▹ alt i)) (at p es) ≤ kids (λ i. mk (p ▹ alt i)) (v ∷ at p es)
-    → recordsLeft ts (ps ++ entry p v ∷ []) es nk + cond (unseen ps p) (takes (kind v)) 0 + kids (λ i. mk (p ▹ alt i)) (v ∷ at p es)
-    ≤ kids (λ i. nk (p ▹ alt i)) (at p es) + recordsLeft ts ps (entry p v ∷ es) mk
+    → branches (λ i. nk (p ▹ alt i)) (at p es) ≤ branches (λ i. mk (p ▹ alt i)) (v ∷ at p es)
+    → recordsLeft ts (ps ++ entry p v ∷ []) es nk + cond (unseen ps p) (takes (kind v)) 0 + branches (λ i. mk (p ▹ alt i)) (v ∷ at p es)
+    ≤ branches (λ i. nk (p ▹ alt i)) (at p es) + recordsLeft ts ps (entry p v ∷ es) mk
 records-step ts ps es p v mk nk has′ off less =
     let l : total (recordNeed (ps ++ entry p v ∷ []) es nk) (firsts ts) + recordNeed ps (entry p v ∷ es) mk p
     ≤ recordNeed (ps ++ entry p v ∷ []) es nk p + total (recordNeed ps (entry p v ∷ es) mk) (firsts ts) =
     lowered (recordNeed ps (entry p v ∷ es) mk) (recordNeed (ps ++ entry p v ∷ []) es nk) le p (firsts ts) has′ in
     omega (arith, l, at-p, now)
   where
-    now : recordNeed (ps ++ entry p v ∷ []) es nk p ≡ 0 + kids (λ i. nk (p ▹ alt i)) (at p es)
+    now : recordNeed (ps ++ entry p v ∷ []) es nk p ≡ 0 + branches (λ i. nk (p ▹ alt i)) (at p es)
     now = rw (seen-now ps p v) refl
 
-    at-p : recordNeed ps (entry p v ∷ es) mk p ≡ cond (unseen ps p) (takes (kind v)) 0 + kids (λ i. mk (p ▹ alt i)) (v ∷ at p es)
+    at-p : recordNeed ps (entry p v ∷ es) mk p ≡ cond (unseen ps p) (takes (kind v)) 0 + branches (λ i. mk (p ▹ alt i)) (v ∷ at p es)
     at-p = rw (at-here p v es) refl
 
     own : recordNeed (ps ++ entry p v ∷ []) es nk p ≤ recordNeed ps (entry p v ∷ es) mk p
@@ -164,7 +164,7 @@ records-step ts ps es p v mk nk has′ off less =
       where
         go : (b : Bool) → same p q ≡ b → recordNeed (ps ++ entry p v ∷ []) es nk q ≤ recordNeed ps (entry p v ∷ es) mk q
         go true e = subst (λ (o : Path). recordNeed (ps ++ entry p v ∷ []) es nk o ≤ recordNeed ps (entry p v ∷ es) mk o) (same-true p q e) own
-        go false e = rw (at-past p q v es e, at-off p q v ps e) (omega (arith, kids-same (λ i. nk (q ▹ alt i)) (λ i. mk (q ▹ alt i)) (off q e) (at q es)))
+        go false e = rw (at-past p q v es e, at-off p q v ps e) (omega (arith, branches-same (λ i. nk (q ▹ alt i)) (λ i. mk (q ▹ alt i)) (off q e) (at q es)))
 
 -- ---- at the start
 

@@ -15,6 +15,7 @@ abbrev pub keep : {X : Type 0} → (X → Bool) → List X → List X
 keep t [] = []
 keep t (x ∷ xs) = cond (t x) (x ∷ keep t xs) (keep t xs)
 
+-- the nodes but this one
 abbrev pub others : Path → List Path → List Path
 others p qs = keep (λ q. not (same p q)) qs
 
@@ -28,9 +29,11 @@ abbrev pub written : Meaning → List Value → List ℕ
 written col [] = []
 written col (v ∷ vs) = columns col (kind v) (each cell (v ∷ vs))
 
+-- the bytes of a node
 abbrev pub nodeBytes : Meaning → List Entry → Path → List ℕ
 nodeBytes col es p = written col (at p es)
 
+-- the bytes of all nodes
 abbrev pub bytesOf : Meaning → List Entry → List ℕ
 bytesOf col es = joined (each (nodeBytes col es) (firsts es))
 

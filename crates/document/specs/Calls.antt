@@ -38,6 +38,7 @@ pub data Kind : Type 0 where
   TEXT SEQ MAP ENUM UNIT : Kind
   TUPLE : ℕ → Kind
 
+-- the kind that a value marks its node as
 abbrev pub kind : Value → Kind
 kind (scalar k b) = SCALAR k
 kind (text bs) = TEXT
@@ -54,6 +55,7 @@ pub data Cell : Type 0 where
   number : ℕ → Cell
   letters : List ℕ → Cell
 
+-- what a node keeps of a value
 abbrev pub cell : Value → Cell
 cell (scalar k b) = number b
 cell (text bs) = letters bs
@@ -70,6 +72,7 @@ abbrev pub num : Cell → ℕ
 num (number n) = n
 num (letters bs) = length bs
 
+-- the letters of a cell, none for a number
 abbrev pub str : Cell → List ℕ
 str (number n) = []
 str (letters bs) = bs

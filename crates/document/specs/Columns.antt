@@ -15,6 +15,7 @@ abbrev pub longs : List ℕ → List ℕ
 longs [] = []
 longs (n ∷ ns) = cond (ltb n 255) (longs ns) (n ∷ longs ns)
 
+-- the sum of numbers
 abbrev pub sum : List ℕ → ℕ
 sum ns = total (λ n. n) ns
 
@@ -22,6 +23,7 @@ sum ns = total (λ n. n) ns
 abbrev pub limit : ℕ
 limit = 2251799813685247
 
+-- lists one after another
 abbrev pub joined : List (List ℕ) → List ℕ
 joined [] = []
 joined (t ∷ ts) = t ++ joined ts

@@ -10,6 +10,7 @@ pub record Entry : Type 0 where
   pub node : Path
   pub said : Value
 
+-- an entry
 abbrev pub entry : Path → Value → Entry
 entry p v = record { node = p; said = v }
 

@@ -4,17 +4,20 @@ use mathlib.Core.List.{List, [], _∷_, _++_}
 use Prim.Native.Nat.{ℕ, zero, suc, _+_}
 use lib.Dec.{eqb}
 use lib.ListN.{replicate}
+use lib.IntN.{negsuc}
 use Rattle.std.specs.declared.result.Result.{Result}
 use Rattle.std.specs.declared.result.Result.the-variants.{Ok, Err}
 use Rattle.column.specs.Meaning.{Meaning}
 use Rattle.column.specs.Flat.{flat}
 use Rattle.column.specs.Short.{shortKind}
 use Rattle.column.specs.Steps.{steps}
-use Rattle.document.specs.declared.scalars.Scalar.the-variants.{Bool as BIT, U8, U16, U32, I8}
+use Rattle.document.specs.declared.scalars.Scalar.the-variants.{Bool as BIT, U8, U16, U32}
 use Rattle.document.specs.declared.refusals.Refusal.{Refusal}
 use Rattle.document.specs.declared.questions.Question.{Question}
 use Rattle.document.specs.declared.questions.Question.the-variants as questions
+use Rattle.document.specs.declared.calls.Call.the-variants as spoken
 use Rattle.document.specs.Refusals.{numberOf}
+use Rattle.document.specs.Said.{said}
 use Rattle.document.specs.Calls.{Value, scalar, text, unit, none, some, variant, seq, map, tuple, Call, val, end}
 use Rattle.document.specs.Bytes.{bytes}
 use Rattle.document.specs.Columns.{lengthBytes}
@@ -48,11 +51,12 @@ late =
 abbrev flatBytes : List Call → List ℕ → Bool
 flatBytes cs bs = equal (bytes flat cs) bs
 
+-- documents and their bytes
 abbrev pub written : Bool
 written =
     flatBytes (val unit ∷ []) []
     && flatBytes (val (scalar U16 258) ∷ []) (0x02 ∷ 0x01 ∷ [])
-    && flatBytes (val (scalar I8 255) ∷ []) (0xff ∷ [])
+    && flatBytes (said (spoken.I8 (negsuc 0)) ∷ []) (0xff ∷ [])
     && flatBytes (val none ∷ []) (0x00 ∷ [])
     && flatBytes (val (tuple 1) ∷ u8 7 ∷ end ∷ []) (0x07 ∷ [])
     && flatBytes (val (map 1) ∷ u8 3 ∷ bit 1 ∷ end ∷ []) (0x01 ∷ 0x03 ∷ 0x01 ∷ [])
@@ -79,6 +83,7 @@ abbrev pub accepts : {X : Type 0} → Result X Refusal → Bool
 accepts (Ok x) = true
 accepts (Err r) = false
 
+-- a call for each refusal, and what passes at the edges
 abbrev pub refusedCalls : Bool
 refusedCalls =
     refusedBy 1 (verdict roomy (u8 7 ∷ []) end)
@@ -108,6 +113,7 @@ stoppedBy n (stopped r) = eqb n (numberOf r)
 abbrev asking : List ℕ → List Question → Replay
 asking bs qs = finish (replay flat bs (begin 100 100 bs) qs)
 
+-- a question for each refusal
 abbrev pub refusedQuestions : Bool
 refusedQuestions =
     stoppedBy 1 (asking (0x07 ∷ []) (questions.Scalar U8 ∷ questions.End ∷ []))

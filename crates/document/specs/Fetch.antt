@@ -17,6 +17,7 @@ pub record Supply : Type 0 where
   pub slots : ℕ
   pub input : List ℕ
 
+-- a supply
 abbrev pub supply : ℕ → List ℕ → Supply
 supply s bs = record { slots = s; input = bs }
 
@@ -25,6 +26,7 @@ pub data Fetched (X : Type 0) : Type 0 where
   fetched : X → Supply → Fetched X
   denied : Refusal → Fetched X
 
+-- a refusal ends the reading
 abbrev pub andThen : {X Y : Type 0} → Fetched X → (X → Supply → Fetched Y) → Fetched Y
 andThen (fetched x u) f = f x u
 andThen (denied r) f = denied r
@@ -43,13 +45,16 @@ numbers col column w n u = cond (leb n (u .slots)) (from column n u (col .parse 
 abbrev pub beyond : List ℕ → ℕ
 beyond ss = total (λ s. cond (ltb s 255) 0 1) ss
 
+-- the lengths from the two columns, in order
 abbrev pub merged : List ℕ → List ℕ → List ℕ
 merged [] ls = []
 merged (s ∷ ss) ls = cond (ltb s 255) (s ∷ merged ss ls) (getD ls 0 0 ∷ merged ss (drop 1 ls))
 
+-- the sum of the lengths is below the limit
 abbrev pub limited : List ℕ → Supply → Fetched (List ℕ)
 limited ns u = cond (ltb (sum ns) limit) (fetched ns u) (denied refusals.Sum)
 
+-- a node's lengths
 abbrev pub lengths : Meaning → ℕ → ℕ → Supply → Fetched (List ℕ)
 lengths col column n u =
     andThen (numbers col column 8 n u) (λ ss t. andThen (numbers col (suc column) 64 (beyond ss) t) (λ ls r. limited (merged ss ls) r))
@@ -59,10 +64,12 @@ abbrev pub cut : List ℕ → List ℕ → List (List ℕ)
 cut [] bs = []
 cut (n ∷ ns) bs = take n bs ∷ cut ns (drop n bs)
 
+-- whether all texts are well-formed
 abbrev pub allPass : List (List ℕ) → Bool
 allPass [] = true
 allPass (t ∷ ts) = passes t && allPass ts
 
+-- every text is tested
 abbrev pub tested : List (List ℕ) → Supply → Fetched (List (List ℕ))
 tested ts u = cond (allPass ts) (fetched ts u) (denied refusals.Text)
 
@@ -71,12 +78,15 @@ abbrev pub parted : ℕ → List ℕ → Supply → Fetched (List (List ℕ))
 parted column ns u =
     cond (leb (sum ns) (length (u .input))) (tested (cut ns (u .input)) (supply (u .slots) (drop (sum ns) (u .input)))) (denied (refusals.Short 0 (2 + column)))
 
+-- a node's texts
 abbrev pub texts : Meaning → ℕ → ℕ → Supply → Fetched (List (List ℕ))
 texts col column n u = andThen (lengths col column n u) (parted column)
 
+-- numbers as cells
 abbrev pub asNumbers : List ℕ → Supply → Fetched (List Cell)
 asNumbers ns u = fetched (each number ns) u
 
+-- texts as cells
 abbrev pub asLetters : List (List ℕ) → Supply → Fetched (List Cell)
 asLetters ts u = fetched (each letters ts) u
 

@@ -9,6 +9,7 @@ pub data Following : Type 0 where
   nothing one : Following
   enclosed : ℕ → Following
 
+-- what follows each call
 abbrev pub follows : Value → Following
 follows (scalar k b) = nothing
 follows (text bs) = nothing

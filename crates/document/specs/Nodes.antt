@@ -68,5 +68,6 @@ demand ENUM s c = cond (alike (alt (num c)) s) 1 0
 demand UNIT s c = 0
 demand (TUPLE n) s c = fieldOf n s
 
+-- how many values a value demands at the child s of its node
 abbrev pub demands : Step → Value → ℕ
 demands s v = demand (kind v) s (cell v)

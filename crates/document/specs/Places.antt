@@ -11,6 +11,7 @@ use Rattle.document.specs.Calls.{Value, scalar, text, unit, none, some, varian
 use Rattle.document.specs.Nodes.{Path, root, _▹_, elem, key, value, field, alt}
 use Rattle.document.specs.Entries.{Entry, leaves}
 
+-- a place waits for values: of a seq, a map (keys and values in turn), a tuple, a `tuple 1`, or one value that follows
 pub data Place : Type 0 where
   items keys : Path → ℕ → Place  -- so many elements, or pairs, are to come
   vals : Path → ℕ → Place  -- a map value is next, and then so many pairs
@@ -24,6 +25,7 @@ pub data Next : Type 0 where
   nowhere : Next
   there : Path → Place → Next
 
+-- where the next value stands
 abbrev pub next : Place → Next
 next (items p zero) = nowhere
 next (items p (suc n)) = there (p ▹ elem) (items p n)
@@ -90,11 +92,13 @@ abbrev pub tell : Value → List Place → Next → Turn
 tell v fs nowhere = stays Count
 tell v fs (there p f) = cond (tooMany (length (opens p v ++ f ∷ fs))) (stays Depth) (goes (leaves p v) (settle (opens p v ++ f ∷ fs)))
 
+-- a call with these places open, the innermost first
 abbrev pub turn : List Place → Call → Turn
 turn [] c = stays IsComplete
 turn (f ∷ fs) (val v) = tell v fs (next f)
 turn (f ∷ fs) end = cond (full f) (goes [] (settle fs)) (stays Count)
 
+-- before the first call
 abbrev pub start : List Place
 start = only root ∷ []
 

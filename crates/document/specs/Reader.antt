@@ -23,6 +23,7 @@ use Rattle.document.specs.Verdict.{kindNumber}
 abbrev pub code : Kind → ℕ
 code K = cond (ltb (kindNumber K) 5) (kindNumber K) (kindNumber K - 4)
 
+-- one kind to the reader
 abbrev pub kin : Kind → Kind → Bool
 kin J K = eqb (code J) (code K)
 
@@ -46,13 +47,16 @@ pub record Store : Type 0 where
   pub columns : ℕ
   pub texts : Path → ℕ
 
+-- a reader between two questions
 pub record Reading : Type 0 where
   pub places : List Place
   pub store : Store
 
+-- a reader with these places open
 abbrev pub reading : List Place → Store → Reading
 reading fs st = record { places = fs; store = st }
 
+-- no node is read: the root has one value
 abbrev pub unread : Path → Node
 unread root = fresh 1
 unread (p ▹ s) = fresh 0
@@ -63,6 +67,7 @@ begin nodes slots bs =
     reading start
     (record { nodes = unread; made = λ q. false; rooted = leb 1 (usableNodes nodes); records = usableNodes nodes - 1; slots = usableCells slots; input = bs; place = 0; columns = 0; texts = λ q. 0 })
 
+-- a map with another value at p
 abbrev pub put : {X : Type 0} → Path → X → (Path → X) → Path → X
 put p x xs q = cond (same p q) x (xs q)
 
@@ -73,9 +78,11 @@ spread p K cs ns (r ▹ s) = cond (same p r) (fresh (total (demand K s) cs)) (ns
 
 -- ---- a node's cells
 
+-- the number of letters of a cell
 abbrev pub letterCount : Cell → ℕ
 letterCount c = length (str c)
 
+-- a node's cells and the state with its columns read, or a refusal
 pub data Look : Type 0 where
   found : List Cell → Store → Look
   lost : Refusal → Look
@@ -85,15 +92,18 @@ abbrev pub opened : Path → Kind → List Cell → Supply → Store → Store
 opened p K cs u st =
     record { nodes = spread p K cs (st .nodes); made = st .made; rooted = st .rooted; records = st .records - takes K; slots = u .slots; input = u .input; place = st .place + (length (st .input) - length (u .input)); columns = st .columns + columnsOf K; texts = put p (st .place + (length (st .input) - length (u .input)) - total letterCount cs) (st .texts) }
 
+-- the node was read just now
 abbrev pub newly : Path → Kind → Store → Fetched (List Cell) → Look
 newly p K st (fetched cs u) = found cs (opened p K cs u st)
 newly p K st (denied r) = lost r
 
+-- a node that is met first is read; another one is of the kind that is asked for
 abbrev pub looked : Meaning → Path → Kind → Store → Node → Look
 looked col p K st (fresh n) =
     cond (leb (takes K) (st .records)) (newly p K st (fetch col (st .columns) K n (supply (st .slots) (st .input)))) (lost refusals.Nodes)
 looked col p K st (ready H cs) = cond (kin H K) (found cs st) (lost refusals.Kind)
 
+-- a node's cells
 abbrev pub look : Meaning → Path → Kind → Store → Look
 look col p K st = looked col p K st (st .nodes p)
 
@@ -106,6 +116,7 @@ pub data Ask : Type 0 where
   seq? map? : Bool → Ask
   tuple? : ℕ → Ask
 
+-- the kind that a question asks for
 abbrev pub asks : Ask → Kind
 asks (scalar? k) = SCALAR k
 asks text? = TEXT
@@ -125,14 +136,17 @@ pub data Worth : Type 0 where
   worth : Value → Worth
   worthless : Refusal → Worth
 
+-- an option's index
 abbrev pub option : ℕ → Worth
 option zero = worth none
 option (suc zero) = worth some
 option (suc (suc n)) = worthless refusals.Option
 
+-- a flagged length above 65,536
 abbrev pub oversized : Bool → ℕ → Bool
 oversized flag n = flag && ltb 65536 n
 
+-- a cell, as this question has it
 abbrev pub worthOf : Ask → Cell → Worth
 worthOf (scalar? k) c = worth (scalar k (num c))
 worthOf text? c = worth (text (str c))
@@ -147,6 +161,7 @@ pub data Child : Type 0 where
   childless : Child
   child : Path → Child
 
+-- the child at which the value that follows stands
 abbrev pub childOf : Path → Value → Child
 childOf p (scalar k b) = childless
 childOf p (text bs) = childless
@@ -158,13 +173,15 @@ childOf p (seq n) = childless
 childOf p (map n) = childless
 childOf p (tuple n) = childless
 
+-- a child has its record
 abbrev pub withChild : Path → Store → Store
 withChild q st =
     record { nodes = st .nodes; made = put q true (st .made); rooted = st .rooted; records = st .records - 1; slots = st .slots; input = st .input; place = st .place; columns = st .columns; texts = st .texts }
 
-abbrev pub housed : Call → ℕ → List Place → Store → Child → Reply
-housed c at fs st childless = reply c at (reading fs st)
-housed c at fs st (child q) =
+-- a new child takes a record, if there is one
+abbrev pub recorded : Call → ℕ → List Place → Store → Child → Reply
+recorded c at fs st childless = reply c at (reading fs st)
+recorded c at fs st (child q) =
     cond (st .made q) (reply c at (reading fs st)) (cond (leb 1 (st .records)) (reply c at (reading fs (withChild q st))) (refuse refusals.Nodes))
 
 -- a cell of the node was taken: these are left, and its next text stands behind this one
@@ -172,9 +189,10 @@ abbrev pub taken : Path → Kind → Cell → List Cell → Store → Store
 taken p K c cs st =
     record { nodes = put p (ready K cs) (st .nodes); made = st .made; rooted = st .rooted; records = st .records; slots = st .slots; input = st .input; place = st .place; columns = st .columns; texts = put p (st .texts p + letterCount c) (st .texts) }
 
+-- the answer, where it opens no place too many
 abbrev pub give : Path → List Place → Kind → Cell → List Cell → Store → Worth → Reply
 give p fs K c cs st (worth v) =
-    cond (tooMany (length (opens p v ++ fs))) (refuse refusals.Depth) (housed (val v) (st .texts p) (settle (opens p v ++ fs)) (taken p K c cs st) (childOf p v))
+    cond (tooMany (length (opens p v ++ fs))) (refuse refusals.Depth) (recorded (val v) (st .texts p) (settle (opens p v ++ fs)) (taken p K c cs st) (childOf p v))
 give p fs K c cs st (worthless r) = refuse r
 
 -- the next of the node's cells; that there is none does not happen
@@ -183,6 +201,7 @@ pick p fs a (found [] st) = refuse refusals.Count
 pick p fs a (found (c ∷ cs) st) = give p fs (asks a) c cs st (worthOf a c)
 pick p fs a (lost r) = refuse r
 
+-- a question of a node
 abbrev pub consult : Meaning → Store → Path → List Place → Ask → Reply
 consult col st p fs a = pick p fs a (look col p (asks a) st)
 
@@ -194,6 +213,7 @@ opening fs r = cond (tooMany (suc (length fs))) (refuse refusals.Depth) r
 abbrev pub rooted : Store → Reply → Reply
 rooted st r = cond (st .rooted) r (refuse refusals.Nodes)
 
+-- a `tuple 1` asks nothing of a node
 abbrev pub tupled : Meaning → Store → Path → List Place → ℕ → Reply
 tupled col st p fs zero = consult col st p fs (tuple? 0)
 tupled col st p fs (suc zero) = reply (val (tuple 1)) 0 (reading (settle (opens p (tuple 1) ++ fs)) st)

@@ -6,6 +6,7 @@ use Rattle.column.specs.declared.fault.Cause.the-variants.{Room as NoRoom, Shor
 use Rattle.document.specs.declared.refusals.Refusal.{Refusal}
 use Rattle.document.specs.declared.refusals.Refusal.the-variants.{Complete, Count, Depth, Kind, Index, Nodes, Cells, Short, Past, Bad, Sum, Text, TextTable, Option, NoSize, Early, Scratch, Room, Left}
 
+-- a refusal's number
 abbrev pub numberOf : Refusal → ℕ
 numberOf Complete = 1
 numberOf Count = 2
@@ -33,5 +34,6 @@ ofCause NoRoom layer column = Room
 ofCause TooShort layer column = Short layer column
 ofCause NoValue layer column = Bad layer column
 
+-- .. with its layer, and the column's number
 abbrev pub ofFault : Fault → ℕ → Refusal
 ofFault fault column = ofCause (fault .cause) (fault .layer) column

@@ -28,14 +28,17 @@ hearing input (val (map n)) place = val (map n)
 hearing input (val (tuple n)) place = val (tuple n)
 hearing input end place = end
 
+-- no question is left
 abbrev pub ending : List Place → List ℕ → Replay
 ending [] bs = heard [] bs
 ending (f ∷ fs) bs = stopped refusals.Early
 
+-- one call more
 abbrev pub also : Call → Replay → Replay
 also c (heard cs bs) = heard (c ∷ cs) bs
 also c (stopped r) = stopped r
 
+-- what is heard of an answer, and of those after it
 abbrev pub going : List ℕ → Reply → (Reading → Replay) → Replay
 going input (reply c place r) more = also (hearing input c place) (more r)
 going input (refuse r) more = stopped r

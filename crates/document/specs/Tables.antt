@@ -13,6 +13,7 @@ use Rattle.document.specs.Bytes.{firsts}
 abbrev pub lengthCells : ℕ → ℕ
 lengthCells n = cond (ltb n 255) 1 2
 
+-- the cells, or slots, that a value takes
 abbrev pub cells : Value → ℕ
 cells (scalar k b) = 1
 cells (text bs) = lengthCells (length bs)
@@ -24,6 +25,7 @@ cells (seq n) = lengthCells n
 cells (map n) = lengthCells n
 cells (tuple n) = 0
 
+-- the cells of all entries
 abbrev pub cellsOf : List Entry → ℕ
 cellsOf es = total (λ e. cells (e .said)) es
 
@@ -38,40 +40,45 @@ takes UNIT = 0
 takes (TUPLE n) = n
 
 -- an index of an ENUM node, whose child takes a record when it is new
-pub data Kid : Type 0 where
-  kidless : Kid
-  kid : ℕ → Kid
+pub data Branch : Type 0 where
+  unbranched : Branch
+  branch : ℕ → Branch
 
-abbrev pub kidOf : Value → Kid
-kidOf (scalar k b) = kidless
-kidOf (text bs) = kidless
-kidOf unit = kidless
-kidOf none = kid 0
-kidOf some = kid 1
-kidOf (variant i) = kid i
-kidOf (seq n) = kidless
-kidOf (map n) = kidless
-kidOf (tuple n) = kidless
+-- the index that a value takes, if any
+abbrev pub branchOf : Value → Branch
+branchOf (scalar k b) = unbranched
+branchOf (text bs) = unbranched
+branchOf unit = unbranched
+branchOf none = branch 0
+branchOf some = branch 1
+branchOf (variant i) = branch i
+branchOf (seq n) = unbranched
+branchOf (map n) = unbranched
+branchOf (tuple n) = unbranched
 
-abbrev pub newKid : (ℕ → Bool) → Kid → ℕ
-newKid had kidless = 0
-newKid had (kid i) = cond (had i) 0 1
+-- a new index takes a record
+abbrev pub newBranch : (ℕ → Bool) → Branch → ℕ
+newBranch had unbranched = 0
+newBranch had (branch i) = cond (had i) 0 1
 
-abbrev pub withKid : (ℕ → Bool) → Kid → ℕ → Bool
-withKid had kidless j = had j
-withKid had (kid i) j = cond (eqb i j) true (had j)
+-- the indices that there are then
+abbrev pub withBranch : (ℕ → Bool) → Branch → ℕ → Bool
+withBranch had unbranched j = had j
+withBranch had (branch i) j = cond (eqb i j) true (had j)
 
 -- how many indices among the values are new: had says which there are
-abbrev pub kids : (ℕ → Bool) → List Value → ℕ
-kids had [] = 0
-kids had (v ∷ vs) = newKid had (kidOf v) + kids (withKid had (kidOf v)) vs
+abbrev pub branches : (ℕ → Bool) → List Value → ℕ
+branches had [] = 0
+branches had (v ∷ vs) = newBranch had (branchOf v) + branches (withBranch had (branchOf v)) vs
 
+-- the records for the mark of a node
 abbrev pub marks : List Value → ℕ
 marks [] = 0
 marks (v ∷ vs) = takes (kind v)
 
+-- the records that a node takes
 abbrev pub recordsAt : List Value → ℕ
-recordsAt vs = marks vs + kids (λ i. false) vs
+recordsAt vs = marks vs + branches (λ i. false) vs
 
 -- .. beside the root's own
 abbrev pub recordsOf : List Entry → ℕ
@@ -83,11 +90,14 @@ lettersOf es = total (λ e. length (str (cell (e .said)))) es
 
 -- ---- how much of a table can be used: record 0 stays unused, and past its limit nothing is
 
+-- node records
 abbrev pub usableNodes : ℕ → ℕ
 usableNodes size = min size 65536 - 1
 
+-- cell records, or slots
 abbrev pub usableCells : ℕ → ℕ
 usableCells size = min size 1048576 - 1
 
+-- text bytes
 abbrev pub usableText : ℕ → ℕ
 usableText size = min size 16777216

@@ -35,6 +35,7 @@ abbrev pub Asks : Question → Call → Type 0
 Asks q (val v) = (flag : Bool) × (q ≡ asked flag (val v)) × (T flag → extent v ≤ 65536)
 Asks q end = q ≡ asked false end
 
+-- each question asks for the call at its place
 abbrev pub Asked : List Question → List Call → Type 0
 Asked [] [] = Unit {0}
 Asked [] (c ∷ cs) = ⊥

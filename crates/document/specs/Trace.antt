@@ -19,6 +19,7 @@ abbrev pub went : Turn → List Place
 went (stays r) = []
 went (goes es gs) = gs
 
+-- the places after a list of calls
 abbrev pub placesAfter : List Place → List Call → List Place
 placesAfter fs [] = fs
 placesAfter fs (c ∷ cs) = placesAfter (went (turn fs c)) cs

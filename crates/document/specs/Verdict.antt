@@ -37,6 +37,7 @@ scalarNumber scalars.I32 = 7
 scalarNumber scalars.I64 = 8
 scalarNumber scalars.F32 = 9
 
+-- kinds by number, each its own
 abbrev pub kindNumber : Kind → ℕ
 kindNumber (SCALAR k) = scalarNumber k
 kindNumber TEXT = 10
@@ -46,6 +47,7 @@ kindNumber ENUM = 13
 kindNumber UNIT = 14
 kindNumber (TUPLE n) = 15 + n
 
+-- whether the test holds of an element
 abbrev pub anyOf : {X : Type 0} → (X → Bool) → List X → Bool
 anyOf test [] = false
 anyOf test (x ∷ xs) = test x || anyOf test xs
@@ -55,12 +57,15 @@ abbrev pub strange : List Value → Value → Bool
 strange [] v = false
 strange (first ∷ vs) v = not (eqb (kindNumber (kind first)) (kindNumber (kind v)))
 
+-- whether an entry is of another kind than its node
 abbrev pub clash : List Entry → Entry → Bool
 clash ts e = strange (at (e .node) ts) (e .said)
 
+-- an index above 255
 abbrev pub highIndex : Value → Bool
 highIndex v = eqb (kindNumber (kind v)) (kindNumber ENUM) && ltb 255 (num (cell v))
 
+-- a text that is not well-formed
 abbrev pub illFormed : Value → Bool
 illFormed v = eqb (kindNumber (kind v)) (kindNumber TEXT) && not (passes (str (cell v)))
 
@@ -87,6 +92,7 @@ weighed sizes ts v es =
     ∷ []
     )
 
+-- what a turn and a weighing come to
 abbrev pub judged : Sizes → List Entry → Call → Turn → Result (Unit {0}) Refusal
 judged sizes ts c (stays r) = Err r
 judged sizes ts (val v) (goes es gs) = weighed sizes ts v es
@@ -114,6 +120,7 @@ abbrev pub AcceptedAfter : Sizes → List Call → List Call → Type 0
 AcceptedAfter sizes done [] = Unit {0}
 AcceptedAfter sizes done (c ∷ cs) = Real c × (verdict sizes done c ≡ Ok tt) × AcceptedAfter sizes (done ++ c ∷ []) cs
 
+-- an accepted list
 abbrev pub Accepted : Sizes → List Call → Type 0
 Accepted sizes cs = AcceptedAfter sizes [] cs
 

@@ -15,6 +15,7 @@ use Rattle.document.specs.Trace.{trace, placesAfter}
 use Rattle.document.specs.Bytes.{bytes}
 use Rattle.document.specs.Tables.{cellsOf}
 
+-- whether no place is open
 abbrev pub noneOpen : List Place → Bool
 noneOpen [] = true
 noneOpen (f ∷ fs) = false
