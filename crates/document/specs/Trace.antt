@@ -14,7 +14,7 @@ abbrev pub trace : List Place → List Call → List Entry
 trace fs [] = []
 trace fs (c ∷ cs) = gathered (turn fs c) (λ gs. trace gs cs)
 
--- the places after the calls
+-- the places after a turn; none after a refusal
 abbrev pub went : Turn → List Place
 went (stays r) = []
 went (goes es gs) = gs
