@@ -1,6 +1,7 @@
 pub mod Calls
 pub mod Refusals
 pub mod Said
+pub mod Numbers
 pub mod Nodes
 pub mod Entries
 pub mod Places

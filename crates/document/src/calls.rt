@@ -1,8 +1,12 @@
 //! The calls that a document is made of.
 
 ghost use mathlib.Core.Path.{_≡_};
+ghost use Rattle.std.specs.Options.{Cases};
+ghost use Rattle.document.specs.Calls.{scalar, val};
+ghost use Rattle.document.specs.Numbers.{NoNumber};
 ghost use Rattle.document.specs.Said.{said, asked};
 ghost use Rattle.document.specs.Verdict.{Real};
+use crate::numbers::Number;
 use crate::questions::Question;
 use crate::scalars::Scalar;
 
@@ -56,6 +60,55 @@ impl Call<'_> {
             Call::Map(_) => Question::Map { no_size },
             Call::Tuple(n) => Question::Tuple(n),
             Call::End => Question::End,
+        }
+    }
+
+    /// The number that this call says, by its bits; none where it is no number.
+    pub fn number(self) -> Option<Number>
+        ensures { λ r. ⌜ Cases r (NoNumber (said (self .entry))) (λ n. said (self .entry) ≡ val (scalar (n .kind) (n .bits))) ⌝ }
+    {
+        match self {
+            Call::Bool(b) => Some(Number {
+                kind: Scalar::Bool,
+                bits: u64::from(b),
+            }),
+            Call::U8(n) => Some(Number {
+                kind: Scalar::U8,
+                bits: u64::from(n),
+            }),
+            Call::U16(n) => Some(Number {
+                kind: Scalar::U16,
+                bits: u64::from(n),
+            }),
+            Call::U32(n) => Some(Number {
+                kind: Scalar::U32,
+                bits: u64::from(n),
+            }),
+            Call::U64(n) => Some(Number {
+                kind: Scalar::U64,
+                bits: n,
+            }),
+            Call::I8(z) => Some(Number {
+                kind: Scalar::I8,
+                bits: u64::from(z.cast_unsigned()),
+            }),
+            Call::I16(z) => Some(Number {
+                kind: Scalar::I16,
+                bits: u64::from(z.cast_unsigned()),
+            }),
+            Call::I32(z) => Some(Number {
+                kind: Scalar::I32,
+                bits: u64::from(z.cast_unsigned()),
+            }),
+            Call::I64(z) => Some(Number {
+                kind: Scalar::I64,
+                bits: z.cast_unsigned(),
+            }),
+            Call::F32(n) => Some(Number {
+                kind: Scalar::F32,
+                bits: u64::from(n),
+            }),
+            _ => None,
         }
     }
 }

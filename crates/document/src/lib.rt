@@ -2,6 +2,7 @@
 
 pub mod calls;
 pub mod laws;
+pub mod numbers;
 pub mod questions;
 pub mod refusals;
 pub mod scalars;

@@ -1,5 +1,7 @@
 //! The questions that a reader is asked, and its answers.
 
+ghost use Rattle.document.specs.Numbers.{Is};
+use crate::numbers::Number;
 use crate::scalars::Scalar;
 use crate::scalars::ScalarDebug;
 use crate::scalars::ScalarPartialEq;
@@ -41,4 +43,24 @@ pub enum Answer {
     Map(u64),
     Tuple,
     End,
+}
+
+impl Answer {
+    /// The answer that is this number.
+    pub fn of_number(number: Number) -> Answer
+        ensures { λ r. ⌜ Is r (number .kind) (number .bits) ⌝ }
+    {
+        match number.kind {
+            Scalar::Bool => Answer::Bool(number.bits == 1),
+            Scalar::U8 => Answer::U8(number.bits as u8),
+            Scalar::U16 => Answer::U16(number.bits as u16),
+            Scalar::U32 => Answer::U32(number.bits as u32),
+            Scalar::U64 => Answer::U64(number.bits),
+            Scalar::I8 => Answer::I8((number.bits as u8).cast_signed()),
+            Scalar::I16 => Answer::I16((number.bits as u16).cast_signed()),
+            Scalar::I32 => Answer::I32((number.bits as u32).cast_signed()),
+            Scalar::I64 => Answer::I64(number.bits.cast_signed()),
+            Scalar::F32 => Answer::F32(number.bits as u32),
+        }
+    }
 }
