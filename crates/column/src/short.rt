@@ -22,6 +22,9 @@ pub struct Short;
 /// A form has at most this many bytes.
 const LONGEST: usize = 10;
 
+/// The last of so many groups of a value of 64 bits is at most this.
+const TENTH: u8 = 1;
+
 impl Short {
     /// The number of bytes of a value: none of its forms has fewer.
     pub fn size(value: u64) -> usize
@@ -99,7 +102,7 @@ impl Code for Short as ShortCode {
     fn take(&self, layer: u16, width: u32, input: &[u8], place: usize) -> Result<Taken, Fault> {
         let top = greatest(layer, width)?;
         let size = form_size(layer, input, place)?;
-        if size == LONGEST && input[place + 9] > 1 {
+        if size == LONGEST && input[place + 9] > TENTH {
             return Err(Fault {
                 cause: Cause::Bad,
                 layer,

@@ -9,7 +9,7 @@ use Rattle.column.specs.Digits.{total}
 use Rattle.column.proofs.Choice.{chose}
 use Rattle.column.proofs.Leb128.{front-got, form-fits, form-large, one-bad, one-got}
 use Rattle.column.proofs.short.ShortCode.take.Needs as need
-use Rattle.column.proofs.short.ShortCode.take.Needs.{else-size-eq-LONGEST·by·then-size-eq-LONGEST·else-input-place-gt1, else-size-eq-LONGEST·by·else-size-eq-LONGEST}
+use Rattle.column.proofs.short.ShortCode.take.Needs.{else-size-eq-LONGEST·by·then-size-eq-LONGEST·else-input-place-gt-TENTH, else-size-eq-LONGEST·by·else-size-eq-LONGEST}
 
 pub index-input-place : need.index-input-place
 index-input-place c =
@@ -17,11 +17,11 @@ index-input-place c =
     let got = front-got (c .args .layer) bs (c .in-Continue-size .size) (c .in-Continue-size .ensures tt) in
     omega (arith, simp length-drop at (got .1 .3))
 
-pub returns-then-input-place-gt1 : need.returns-then-input-place-gt1
-returns-then-input-place-gt1 c =
+pub returns-then-input-place-gt-TENTH : need.returns-then-input-place-gt-TENTH
+returns-then-input-place-gt-TENTH c =
     let bs = drop (c .args .place) (c .args .input .now) in
     let got = front-got (c .args .layer) bs (c .in-Continue-size .size) (c .in-Continue-size .ensures tt) in
-    let large = form-large (c .args .width) bs (c .in-Continue-size .size) (c .pre .0) (got .1) (c .if-size-eq-LONGEST .taken) (simp getD-drop (c .if-input-place-gt1 .taken)) in
+    let large = form-large (c .args .width) bs (c .in-Continue-size .size) (c .pre .0) (got .1) (c .if-size-eq-LONGEST .taken) (simp getD-drop (c .if-input-place-gt-TENTH .taken)) in
     one-bad (c .args .layer) (c .args .width) bs (c .in-Continue-size .size) (omega (arith, c .fits .layer)) (got .0) large
 
 pub number-at-value-requires : need.number-at-value-requires
@@ -30,7 +30,7 @@ number-at-value-requires c κs =
     let got = front-got (c .args .layer) bs (c .in-Continue-size .size) (c .in-Continue-size .ensures tt) in
     let small : c .in-Continue-size .size ≡ 10 → getD bs 9 0 ≤ 1 =
     elim (c .else-size-eq-LONGEST .came) [
-      | else-size-eq-LONGEST·by·then-size-eq-LONGEST·else-input-place-gt1 w ↦ λ _. simp getD-drop (w .if-input-place-gt1 .left)
+      | else-size-eq-LONGEST·by·then-size-eq-LONGEST·else-input-place-gt-TENTH w ↦ λ _. simp getD-drop (w .if-input-place-gt-TENTH .left)
       | else-size-eq-LONGEST·by·else-size-eq-LONGEST w ↦ λ e. absurd (w .if-size-eq-LONGEST .left e)
     ] in
     record { base = omega arith; within = omega (arith, simp length-drop at (got .1 .3)); fits = form-fits bs (c .in-Continue-size .size) (got .1) small }
