@@ -3,6 +3,12 @@
 ghost use mathlib.Core.Path.{_≡_};
 ghost use mathlib.Core.Bool.{true};
 ghost use Rattle.columns.specs.Examples.{examples};
+use document::laws::LawDebug;
+use document::laws::conservation;
+use document::laws::faithfulness;
+use document::laws::grammar;
+use document::laws::replay;
+use document::laws::worked_examples;
 use refusals::show_refusals;
 use report::show_table;
 use std::io;
@@ -23,6 +29,21 @@ fn examples_hold() -> bool
     true
 }
 
+/// Names the laws of documents that stand, each by the call whose contract it is.
+fn show_laws(rt: &LibcRuntime) -> io::Result<()> {
+    println!(rt, "laws of documents that are proved")?;
+    for law in [
+        grammar(),
+        conservation(),
+        replay(),
+        faithfulness(),
+        worked_examples(),
+    ] {
+        println!(rt, "  {law:?}")?;
+    }
+    Ok(())
+}
+
 fn main(rt: LibcRuntime) -> io::Result<()> {
     let mut text = Vec::new(rt.alloc());
     let mut stdin = rt.stdin();
@@ -30,5 +51,6 @@ fn main(rt: LibcRuntime) -> io::Result<()> {
     show_table(&rt, text.as_slice())?;
     show_refusals(&rt)?;
     let hold = examples_hold();
-    println!(rt, "the worked examples hold: {hold}")
+    println!(rt, "the worked examples hold: {hold}")?;
+    show_laws(&rt)
 }

@@ -12,6 +12,7 @@ use column::short::Short;
 use column::short::ShortColumn;
 use column::steps::Steps;
 use column::steps::StepsColumn;
+use document::refusals::Refusal;
 use std::alloc::Global;
 use std::io;
 
@@ -121,12 +122,17 @@ fn show_reads(rt: &LibcRuntime) -> io::Result<()> {
 
 /// What the test of text refuses.
 fn show_text(rt: &LibcRuntime, text: &[u8]) -> io::Result<()> {
-    let verdict = match utf8::well_formed(text) {
-        Ok(()) => "taken",
-        Err(utf8::Fault::IllFormed) => "ILL-FORMED, it is not well-formed UTF-8",
-    };
     let bytes = Hex(text);
-    println!(rt, "  text {bytes}: {verdict}")
+    match utf8::well_formed(text) {
+        Ok(()) => println!(rt, "  text {bytes}: taken"),
+        Err(utf8::Fault::IllFormed) => {
+            let number = Refusal::Text.number();
+            println!(
+                rt,
+                "  text {bytes}: ILL-FORMED, it is not well-formed UTF-8; refusal {number}"
+            )
+        }
+    }
 }
 
 /// Prints one example of each refusal.

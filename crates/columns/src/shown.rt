@@ -6,6 +6,7 @@ ghost use Prim.Native.Nat.{_+_, _<_};
 ghost use lib.Dec.{ltb};
 use column::fault::Cause;
 use column::fault::Fault;
+use document::refusals::Refusal;
 use std::fmt;
 
 /// The character of a hexadecimal digit.
@@ -53,7 +54,7 @@ pub impl fmt::Display for Spaced<'_> as SpacedDisplay {
     }
 }
 
-/// A column's refusal in words.
+/// A column's refusal in words, with its number.
 #[derive(Clone, Copy)]
 pub struct Words(pub Fault);
 
@@ -66,6 +67,7 @@ pub impl fmt::Display for Words as WordsDisplay {
             Cause::Bad =>
                 "BAD, a width that is not listed, or a value or form that it does not admit",
         };
-        write!(f, "{cause}; found at layer {layer}")
+        let number = Refusal::of_fault(self.0, 0).number();
+        write!(f, "{cause}; found at layer {layer}; refusal {number}")
     }
 }
