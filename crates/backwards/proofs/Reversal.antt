@@ -1,11 +1,10 @@
 -- Reversing a list twice gives it back, and keeps its length and what holds of its values.
-use mathlib.Core.List.{List, [], _∷_, _++_, reverse}
-use mathlib.Core.Path.{_≡_, refl, subst, sym}
+use mathlib.Core.List.{List, [], _∷_, reverse}
+use mathlib.Core.Path.{refl, subst, sym}
 use Prim.Native.Nat.{ℕ, _<_, _^_}
 use Rattle.std.specs.shelf.Lists.{All}
 use Rattle.std.proofs.shelf.Lists.{length-reverse, reverse-reverse, reverse-append}
-use Rattle.std.proofs.shelf.Elements.{all-append, all-push}
-use Rattle.column.specs.Widths.{Below}
+use Rattle.std.proofs.shelf.Elements.{all-push}
 use Rattle.column.specs.Layer.{Undone}
 
 all-reverse : (P : ℕ → Type 0) (xs : List ℕ) → All P xs → All P (reverse xs)

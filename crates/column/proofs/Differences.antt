@@ -1,14 +1,14 @@
 -- Steps: differences and running sums undo each other, modulo the width.
 use mathlib.Core.Path.{_≡_, refl, sym, _∙_, ap}
 use mathlib.Core.List.{List, [], _∷_, _++_}
-use Prim.Native.Nat.{ℕ, zero, suc, _+_, _-_, _*_, _%_, _^_, _<_, _≤_}
+use Prim.Native.Nat.{ℕ, suc, _+_, _-_, _*_, _%_, _^_, _<_, _≤_}
 use native.Mathlib.Nat.{mod-lt, mod-eq-of-lt, add-mod-mod, add-mod-right, add-mul-mod-self-left}
 use native.Mathlib.Omega.{arith}
 use lib.Bits.{bitAnd}
 use lib.Pow.{pow-pos, pow-add, mod-mod-pow}
-use lib.ListN.{length, getD, take, drop, set}
+use lib.ListN.{length, take, drop, set}
 use Rattle.std.proofs.shelf.Bits.{and-mask}
-use Rattle.std.proofs.shelf.Lists.{take-more-set, drop-set-lt, drop-more, append-assoc, append-nil, take-all, drop-all}
+use Rattle.std.proofs.shelf.Lists.{take-more-set, drop-set-lt, append-assoc, append-nil, take-all, drop-all}
 use Rattle.column.specs.Widths.{Below}
 use Rattle.column.specs.Layer.{Undone}
 use Rattle.column.specs.Steps.{differences, sums}

@@ -1,7 +1,7 @@
 -- Layers: what they answer by what the kind below answers, and that they are lawful.
 use mathlib.Core.Path.{_≡_, refl, _∙_, ap, ap₂, subst}
 use mathlib.Core.Bool.{true, _&&_}
-use mathlib.Core.List.{List, [], _++_}
+use mathlib.Core.List.{List, _++_}
 use mathlib.Core.Logic.{inl, inr}
 use Prim.Native.Nat.{ℕ, suc, _+_, min}
 use native.Mathlib.Omega.{arith}
@@ -14,7 +14,7 @@ use Rattle.column.specs.declared.fault.Cause.{Cause}
 use Rattle.column.specs.declared.fault.Cause.the-variants.{Room, Short, Bad}
 use Rattle.column.specs.declared.fault.Fault.{Fault}
 use Rattle.column.specs.Widths.{listed, below, Below, Bytes}
-use Rattle.column.specs.Parsed.{Parsed, got, short, bad, fault, told, valuesOf}
+use Rattle.column.specs.Parsed.{Parsed, got, short, bad, fault, told}
 use Rattle.column.specs.Meaning.{Meaning, Lawful, Yields}
 use Rattle.column.specs.Interface.{writing, Written, reading}
 use Rattle.column.specs.Layer.{changed, layer, Undone}

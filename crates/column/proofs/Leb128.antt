@@ -1,6 +1,6 @@
 -- The short kind: its forms, that a value's own has the fewest bytes, and that the kind is lawful.
 use mathlib.Core.Path.{_≡_, refl, sym, _∙_, ap, ap₂}
-use mathlib.Core.Bool.{Bool, true, false, cond}
+use mathlib.Core.Bool.{true, cond}
 use mathlib.Core.List.{List, [], _∷_, _++_}
 use mathlib.Core.Logic.{_⊎_, inl, inr}
 use Prim.Native.Nat.{ℕ, zero, suc, _+_, _-_, _*_, _/_, _%_, _^_, _<_, _≤_}
@@ -10,10 +10,10 @@ use lib.Pow.{pow-mono}
 use lib.ListN.{length, getD, take, drop, set}
 use Rattle.std.specs.declared.result.Result.the-variants.{Ok, Err}
 use Rattle.std.proofs.shelf.Lists.{drop-more, drop-all, take-more, length-take, getD-take, length-set, take-set-le}
-use Rattle.std.proofs.shelf.Tests.{lt-ltb, le-ltb, ltb-true, ltb-false, cases-lt, cases-bool}
+use Rattle.std.proofs.shelf.Tests.{lt-ltb, le-ltb, ltb-true, cases-lt, cases-bool}
 use Rattle.column.specs.declared.fault.Cause.the-variants.{Short, Bad}
 use Rattle.column.specs.Widths.{listed, Bytes}
-use Rattle.column.specs.Parsed.{Parsed, got, short, bad, fault, told, andThen}
+use Rattle.column.specs.Parsed.{Parsed, got, short, bad, told, andThen}
 use Rattle.column.specs.Coded.{onto, Coding, Fitting, taken}
 use Rattle.column.specs.Digits.{total}
 use Rattle.column.specs.Short.{Form, Fewest, groups, leb128, front, shortOne}

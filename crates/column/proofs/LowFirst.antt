@@ -1,18 +1,18 @@
 -- The flat kind: it is lawful, and what reading one value answers.
-use mathlib.Core.Path.{_≡_, refl, sym, _∙_, ap}
+use mathlib.Core.Path.{_≡_, refl, ap}
 use mathlib.Core.Bool.{Bool, true, false, cond}
-use mathlib.Core.List.{List, [], _∷_, _++_}
+use mathlib.Core.List.{List, _++_}
 use mathlib.Core.Logic.{_⊎_, inl, inr}
-use Prim.Native.Nat.{ℕ, _+_, _/_, _^_, _<_, _≤_}
+use Prim.Native.Nat.{ℕ, _+_, _^_, _<_, _≤_}
 use native.Mathlib.Omega.{arith}
-use lib.Dec.{eqb, ltb, leb}
-use lib.ListN.{length, take, drop}
+use lib.Dec.{ltb, leb}
+use lib.ListN.{length, take}
 use Rattle.std.specs.declared.result.Result.the-variants.{Ok, Err}
 use Rattle.std.proofs.shelf.Lists.{take-at, length-append, length-take}
 use Rattle.std.proofs.shelf.Tests.{lt-ltb, le-leb, lt-leb, ltb-true, leb-true}
 use Rattle.column.specs.declared.fault.Cause.the-variants.{Short}
-use Rattle.column.specs.Widths.{listed, Bytes}
-use Rattle.column.specs.Parsed.{Parsed, got, short, bad}
+use Rattle.column.specs.Widths.{listed}
+use Rattle.column.specs.Parsed.{got, short, bad}
 use Rattle.column.specs.Coded.{Coding, Fitting, taken}
 use Rattle.column.specs.Digits.{low, total}
 use Rattle.column.specs.Flat.{size, flatOne}

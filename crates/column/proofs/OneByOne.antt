@@ -1,14 +1,14 @@
 -- Kinds that put one value after another: the steps of both loops, and that they are lawful.
 use mathlib.Core.Path.{_≡_, refl, sym, _∙_, ap, ap₂, subst}
-use mathlib.Core.Bool.{Bool, true, false, cond, _&&_}
+use mathlib.Core.Bool.{true, false, _&&_}
 use mathlib.Core.List.{List, [], _∷_, _++_}
 use mathlib.Core.Logic.{inl, inr}
-use Prim.Native.Nat.{ℕ, zero, suc, _+_, _-_, _^_, _<_, _≤_, min}
+use Prim.Native.Nat.{ℕ, zero, suc, _+_, _-_, _^_, _<_, _≤_}
 use native.Mathlib.Nat.{add-assoc, add-zero}
 use native.Mathlib.Omega.{arith}
 use lib.Dec.{leb}
 use lib.ListN.{length, getD, take, drop, set}
-use Rattle.std.specs.shelf.Lists.{All, joined}
+use Rattle.std.specs.shelf.Lists.{joined}
 use Rattle.std.specs.declared.result.Result.{Result}
 use Rattle.std.specs.declared.result.Result.the-variants.{Ok, Err}
 use Rattle.std.proofs.shelf.Lists.{append-assoc, append-nil, length-append, drop-at, drop-drop, at-drop-more, at-drop-all, take-more-set, take-take, length-drop, length-set, take-all}
@@ -19,7 +19,7 @@ use Rattle.column.specs.declared.fault.Fault.{Fault}
 use Rattle.column.specs.declared.coded.Taken.{Taken}
 use Rattle.column.specs.Widths.{listed, below, Below, Bytes}
 use Rattle.column.specs.Parsed.{Parsed, got, short, bad, fault, andThen, told, valuesOf}
-use Rattle.column.specs.Meaning.{Meaning, Lawful, Yields}
+use Rattle.column.specs.Meaning.{Lawful, Yields}
 use Rattle.column.specs.Interface.{overlaid, writing, Written, reading}
 use Rattle.column.specs.Coded.{onto, each, coded, taken, Fitting, Coding}
 use Rattle.column.proofs.Overlaid.{overlaid-nil, overlaid-append, length-overlaid, take-overlaid}

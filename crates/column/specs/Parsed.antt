@@ -4,7 +4,7 @@ use Prim.Native.Nat.{ℕ, _+_, min}
 use Rattle.std.specs.declared.result.Result.{Result}
 use Rattle.std.specs.declared.result.Result.the-variants.{Ok, Err}
 use Rattle.column.specs.declared.fault.Cause.{Cause}
-use Rattle.column.specs.declared.fault.Cause.the-variants.{Room, Short, Bad}
+use Rattle.column.specs.declared.fault.Cause.the-variants.{Short, Bad}
 use Rattle.column.specs.declared.fault.Fault.{Fault}
 
 -- what was read and how many bytes that took; or a fault, with the number of layers between the reader and the layer that found it

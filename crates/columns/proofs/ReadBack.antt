@@ -2,7 +2,7 @@
 use mathlib.Core.Path.{_≡_, sym, _∙_, ap, subst}
 use mathlib.Core.Bool.{true, _&&_}
 use mathlib.Core.List.{List, [], _++_, append-nil}
-use Prim.Native.Nat.{ℕ, _+_, _≤_}
+use Prim.Native.Nat.{ℕ, _+_}
 use native.Mathlib.Omega.{arith}
 use lib.Dec.{leb}
 use lib.ListN.{length, take}
@@ -10,7 +10,7 @@ use Rattle.std.specs.declared.result.Result.the-variants.{Ok}
 use Rattle.std.proofs.shelf.Lists.{take-at}
 use Rattle.std.proofs.shelf.Tests.{le-leb, and-parts}
 use Rattle.column.specs.Widths.{listed, below}
-use Rattle.column.specs.Parsed.{Parsed, got, valuesOf}
+use Rattle.column.specs.Parsed.{got, valuesOf}
 use Rattle.column.specs.Meaning.{Meaning, Lawful}
 use Rattle.column.specs.Interface.{overlaid, writing, reading}
 use Rattle.column.proofs.Choice.{chose-both}

@@ -4,6 +4,7 @@ ghost use mathlib.Core.Path.{_≡_};
 ghost use mathlib.Core.Bool.{true};
 ghost use Rattle.columns.specs.Examples.{examples};
 use document::laws::LawDebug;
+use document::laws::allocation;
 use document::laws::conservation;
 use document::laws::faithfulness;
 use document::laws::grammar;
@@ -35,6 +36,7 @@ fn show_laws(rt: &LibcRuntime) -> io::Result<()> {
     for law in [
         grammar(),
         conservation(),
+        allocation(),
         replay(),
         faithfulness(),
         worked_examples(),

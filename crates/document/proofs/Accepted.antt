@@ -1,10 +1,9 @@
 -- The laws of accepted documents.
-use mathlib.Core.Path.{_≡_, ap, _∙_}
+use mathlib.Core.Path.{ap, _∙_}
 use mathlib.Core.List.{[], append-nil}
 use Rattle.document.specs.Bytes.{bytes}
 use Rattle.document.specs.Replay.{finish}
 use Rattle.document.specs.Theorems.{Conservation, Replays-within, Replays, Faithful}
-use Rattle.document.proofs.Sound.{Sane}
 use Rattle.document.proofs.Accepting.{accepted-sane}
 use Rattle.document.proofs.Count.{counted, counted-root}
 use Rattle.document.proofs.Heard.{heard-within}

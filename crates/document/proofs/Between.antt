@@ -1,23 +1,22 @@
 -- The nodes and the input of a reader between two calls: ps are the entries so far, es those to come, ts all of them.
 use mathlib.Core.Path.{_≡_, refl, ap, ap₂, _∙_, sym, subst}
-use mathlib.Core.Bool.{Bool, true, false, cond, not, _&&_, _||_}
+use mathlib.Core.Bool.{Bool, true, false, cond, not}
 use mathlib.Core.List.{List, [], _∷_, _++_, map as each, append-assoc, append-nil}
-use Prim.Native.Nat.{ℕ, zero, suc, _+_, _-_, _≤_, _<_}
-use native.Mathlib.Omega.{arith}
-use lib.ListN.{length, length-append}
+use Prim.Native.Nat.{ℕ, _+_, _-_, _≤_}
+use lib.ListN.{length}
 use Rattle.std.proofs.shelf.Tests.{eq-eqb, le-leb}
 use Rattle.column.specs.Meaning.{Meaning, Lawful}
-use Rattle.document.proofs.Sound.{Fits, OneKind, Sound}
+use Rattle.document.proofs.Sound.{OneKind, Sound}
 use Rattle.document.specs.Bytes.{keep, others, firsts, written, nodeBytes}
-use Rattle.document.specs.Calls.{Kind, SCALAR, TEXT, SEQ, MAP, ENUM, UNIT, TUPLE, Cell, Value, unit, kind, cell, total, extent}
-use Rattle.document.specs.Columns.{columns, joined, limit}
+use Rattle.document.specs.Calls.{Kind, SCALAR, TEXT, SEQ, MAP, ENUM, UNIT, TUPLE, Value, unit, kind, cell, total}
+use Rattle.document.specs.Columns.{columns, joined}
 use Rattle.document.specs.Entries.{Entry, entry, at}
-use Rattle.document.specs.Fetch.{Supply, supply, Fetched, fetched, denied, fetch}
+use Rattle.document.specs.Fetch.{supply, fetched, fetch}
 use Rattle.document.specs.Nodes.{Path, root, _▹_, Step, same, demand, demands}
-use Rattle.document.specs.Reader.{Store, opened, Node, fresh, ready, put, spread, Look, found, lost, newly, looked, look, kin, code}
+use Rattle.document.specs.Reader.{Store, opened, Node, fresh, ready, put, spread, found, look, code}
 use Rattle.document.specs.Tables.{cells, takes}
 use Rattle.std.specs.shelf.Lists.{All}
-use Rattle.document.proofs.Paths.{same-self, same-true, not-child, at-append, all-append}
+use Rattle.document.proofs.Paths.{same-self, same-true, not-child, at-append}
 use Rattle.document.proofs.ReadBack.{fetch-back}
 
 abbrev pub unitKind : Kind → Bool

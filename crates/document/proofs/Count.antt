@@ -1,20 +1,18 @@
 -- What open places still owe each node, and the balance that every call keeps.
-use mathlib.Core.Path.{_≡_, refl, ap, ap₂, _∙_, sym}
-use mathlib.Core.Bool.{Bool, true, false, cond, _&&_, _||_}
+use mathlib.Core.Path.{_≡_, refl, ap, _∙_}
+use mathlib.Core.Bool.{Bool, true, false, cond, _&&_}
 use mathlib.Core.List.{List, [], _∷_, _++_}
-use Prim.Native.Nat.{ℕ, zero, suc, _+_, _≤_, _<_}
+use Prim.Native.Nat.{ℕ, zero, suc, _+_}
 use native.Mathlib.Omega.{arith}
 use lib.ListN.{length, length-append}
-use lib.Dec.{eqb, ltb, leb}
+use lib.Dec.{ltb, leb}
 use Rattle.std.proofs.shelf.Ways.{tells}
 use Rattle.document.specs.Calls.{total, Value, scalar, text, unit, none, some, variant, seq, map, tuple, Call, val, end}
 use Rattle.document.specs.Entries.{Entry, at, leaves}
-use Rattle.document.specs.Nodes.{Step, Path, elem, key, value, field, alt, root, _▹_, alike, same, demand, demands, fieldOf}
-use Rattle.document.specs.Places.{Place, items, keys, vals, fields, lone, only, closing, Next, nowhere, there, next, full, opens, settle, Turn, stays, goes, tooMany, tell, turn, start, Complete, Onward}
-use Rattle.document.specs.Trace.{gathered, trace}
+use Rattle.document.specs.Nodes.{Step, Path, elem, key, value, field, alt, root, _▹_, same, demands, fieldOf}
+use Rattle.document.specs.Places.{Place, items, keys, vals, fields, lone, only, closing, Next, nowhere, there, next, full, opens, settle, Turn, stays, goes, tooMany, tell, turn, start, Onward, Complete, Runs}
+use Rattle.document.specs.Trace.{gathered, trace, went, placesAfter}
 use Rattle.document.specs.declared.refusals.Refusal.the-variants.{Count, Depth}
-use Rattle.document.specs.declared.scalars.Scalar.{Scalar}
-use Rattle.std.specs.shelf.Lists.{All}
 use Rattle.document.proofs.Paths.{total-append, at-append}
 
 -- n values at p, seen from q
@@ -187,20 +185,32 @@ turn-balanced q (f ∷ fs) end = go (full f) (full-spent q f)
     go true h = omega (arith, settle-owes fs q, due-none q)
     go false h = tt
 
--- what was owed at first and what was demanded on the way has come
-pub balanced : (q : Path) (cs : List Call) (fs : List Place) → Complete fs cs → owes fs q + due (trace fs cs) q ≡ length (at q (trace fs cs))
-balanced q [] fs h = omega (arith, due-none q, ap (λ (gs : List Place). owes gs q) h)
+-- what was owed at first and what was demanded on the way has come, or is owed still
+pub balanced : (q : Path) (cs : List Call) (fs : List Place) → Runs fs cs → owes fs q + due (trace fs cs) q ≡ length (at q (trace fs cs)) + owes (placesAfter fs cs) q
+balanced q [] fs h = omega (arith, due-none q)
 balanced q (c ∷ cs) fs h = go (turn fs c) (turn-balanced q fs c) h (balanced q cs)
   where
-    go : (t : Turn) → Balanced q fs t → Onward t (λ gs. Complete gs cs)
-        → ((gs : List Place) → Complete gs cs → owes gs q + due (trace gs cs) q ≡ length (at q (trace gs cs)))
-        → owes fs q + due (gathered t (λ gs. trace gs cs)) q ≡ length (at q (gathered t (λ gs. trace gs cs)))
+    go : (t : Turn) → Balanced q fs t → Onward t (λ gs. Runs gs cs)
+        → ((gs : List Place) → Runs gs cs → owes gs q + due (trace gs cs) q ≡ length (at q (trace gs cs)) + owes (placesAfter gs cs) q)
+        → owes fs q + due (gathered t (λ gs. trace gs cs)) q ≡ length (at q (gathered t (λ gs. trace gs cs))) + owes (placesAfter (went t) cs) q
     go (stays n) b k ih = absurd k
     go (goes es gs) b k ih = omega (arith, ih gs k, due-append es (trace gs cs) q, length-append (at q es) (at q (trace gs cs)), ap length (at-append q es (trace gs cs)))
 
+complete-runs : (fs : List Place) (cs : List Call) → Complete fs cs → Runs fs cs × (placesAfter fs cs ≡ [])
+complete-runs fs [] h = (tt, h)
+complete-runs fs (c ∷ cs) h = go (turn fs c) h (λ gs. complete-runs gs cs)
+  where
+    go : (t : Turn) → Onward t (λ gs. Complete gs cs) → ((gs : List Place) → Complete gs cs → Runs gs cs × (placesAfter gs cs ≡ [])) → Onward t (λ gs. Runs gs cs) × (placesAfter (went t) cs ≡ [])
+    go (stays n) k ih = absurd k
+    go (goes es gs) k ih = ih gs k
+
+-- of a complete list nothing is owed
+settled : (q : Path) (cs : List Call) → Complete start cs → owes start q + due (trace start cs) q ≡ length (at q (trace start cs))
+settled q cs h = let r = complete-runs start cs h in omega (arith, balanced q cs start (r .0), ap (λ (gs : List Place). owes gs q) (r .1))
+
 -- each node has as many values as its parent's values demand of it
 pub counted : (cs : List Call) → Complete start cs → (q : Path) (s : Step) → length (at (q ▹ s) (trace start cs)) ≡ total (demands s) (at q (trace start cs))
-counted cs h q s = omega (arith, balanced (q ▹ s) cs start h)
+counted cs h q s = omega (arith, settled (q ▹ s) cs h)
 
 pub counted-root : (cs : List Call) → Complete start cs → length (at root (trace start cs)) ≡ 1
-counted-root cs h = omega (arith, balanced root cs start h)
+counted-root cs h = omega (arith, settled root cs h)

@@ -1,25 +1,25 @@
 -- A reader over a document's bytes hears its calls.
-use mathlib.Core.Path.{_≡_, refl, ap, ap₂, _∙_, sym, subst}
-use mathlib.Core.Bool.{Bool, true, false, cond, not, _&&_, _||_}
+use mathlib.Core.Path.{_≡_, refl, ap, _∙_, sym, subst}
+use mathlib.Core.Bool.{Bool, true, false, cond, not}
 use mathlib.Core.List.{List, [], _∷_, _++_, map as each, append-assoc, append-nil}
 use Prim.Native.Nat.{ℕ, zero, suc, _+_, _-_, _≤_, _<_}
 use native.Mathlib.Omega.{arith}
 use lib.ListN.{length, length-append, take, drop}
-use lib.Dec.{T, ltb}
+use lib.Dec.{T}
 use Rattle.std.proofs.shelf.Tests.{le-ltb, le-leb, false≢true, cond-true}
 use Rattle.std.proofs.shelf.Lists.{nil-from-length}
 use Rattle.column.specs.Meaning.{Meaning, Lawful}
 use Rattle.document.proofs.Sound.{OneKind, Sound, Sane}
 use Rattle.document.specs.Bytes.{keep, firsts, bytesOf, bytes}
 use Rattle.document.specs.Columns.{columns}
-use Rattle.document.specs.Calls.{str, Kind, SCALAR, TEXT, SEQ, MAP, ENUM, UNIT, TUPLE, Cell, Value, scalar, text, unit, none, some, variant, seq, map, tuple, kind, cell, total, Call, val, end, extent}
+use Rattle.document.specs.Calls.{str, Kind, SCALAR, TEXT, SEQ, MAP, ENUM, UNIT, TUPLE, Value, scalar, text, unit, none, some, variant, seq, map, tuple, kind, cell, total, Call, val, end, extent}
 use Rattle.document.specs.Entries.{Entry, entry, at, leaves}
 use Rattle.document.specs.Nodes.{Path, root, _▹_, Step, alt, same, demand, demands}
-use Rattle.document.specs.Places.{Place, only, Next, nowhere, there, next, full, opens, settle, Turn, stays, goes, tooMany, tell, turn, start, Complete, Onward}
-use Rattle.document.specs.Reader.{Store, rooted, opened, withChild, taken, letterCount, recorded, child, Node, fresh, ready, put, spread, Look, found, look, oversized, respond, consult, opening, tupled, standing, scalar?, text?, option?, variant?, seq?, map?, reply, Reply, refuse, reading, Reading, begin, unread}
-use Rattle.document.specs.Replay.{replay, heard, Replay, going, also, hearing}
-use Rattle.document.specs.Tables.{cells, takes, Branch, unbranched, branch, branchOf, newBranch, withBranch, branches, recordsOf, cellsOf, usableNodes, usableCells}
-use Rattle.document.specs.Theorems.{Asks, Asked}
+use Rattle.document.specs.Places.{Place, only, Next, nowhere, there, next, full, opens, settle, stays, goes, tooMany, tell, start, Complete, Onward}
+use Rattle.document.specs.Reader.{Store, rooted, opened, withChild, taken, letterCount, recorded, child, fresh, ready, put, found, look, oversized, respond, consult, opening, tupled, standing, scalar?, text?, option?, variant?, seq?, map?, reply, Reply, refuse, reading, begin, unread}
+use Rattle.document.specs.Replay.{replay, heard, going, also, hearing}
+use Rattle.document.specs.Tables.{cells, takes, unbranched, branch, branchOf, withBranch, branches, recordsOf, cellsOf, usableNodes, usableCells}
+use Rattle.document.specs.Theorems.{Asked}
 use Rattle.document.specs.Trace.{gathered, trace}
 use Rattle.document.specs.Verdict.{Sizes}
 use Rattle.document.specs.Said.{asked}
@@ -27,8 +27,8 @@ use Rattle.document.specs.Fetch.{supply}
 use Rattle.document.specs.declared.questions.Question.{Question}
 use Rattle.document.specs.declared.refusals.Refusal.the-variants.{Count, Depth}
 use Rattle.std.specs.shelf.Lists.{All}
-use Rattle.document.proofs.Paths.{same-self, same-true, at-append, all-append}
-use Rattle.document.proofs.Count.{here, owed, owes, due, Owing, next-owed, Balanced, turn-balanced, due-append, due-none, counted, counted-root}
+use Rattle.document.proofs.Paths.{same-self, at-append, all-append}
+use Rattle.document.proofs.Count.{here, owes, due, Owing, next-owed, Balanced, turn-balanced, due-append, due-none, counted, counted-root}
 use Rattle.document.proofs.Texts.{Stands, texts-new, seen-touched, standing-on, standing-unit}
 use Rattle.document.proofs.Between.{input-new, at-here, unitKind, touched, origin, nodesAt, unseen, remaining, Whole, whole-on, look-new, nodes-new, look-seen, nodes-seen, nodes-unit, remaining-unit, remaining-seen, whole-first, isNil}
 use Rattle.document.proofs.Taking.{has, has-whole, slotsLeft, recordsLeft, slots-step, records-step, branches-same, branches-credit, cells-by-node}

@@ -10,3 +10,4 @@ pub mod Texts
 pub mod Heard
 pub mod Faith
 pub mod Accepted
+pub mod Allotting

@@ -1,11 +1,10 @@
-use mathlib.Core.Path.{_≡_, refl, ap, ap₂, _∙_, sym}
-use mathlib.Core.Bool.{Bool, true, false, cond, _&&_, _||_}
+use mathlib.Core.Path.{_≡_, refl, ap, ap₂}
+use mathlib.Core.Bool.{Bool, true, false, cond, _&&_}
 use mathlib.Core.List.{List, [], _∷_, _++_}
 use Prim.Native.Nat.{ℕ, _+_}
 use native.Mathlib.Omega.{arith}
-use lib.ListN.{length}
 use Rattle.std.proofs.shelf.Tests.{eqb-true, eq-eqb, and-parts, and-from}
-use Rattle.document.specs.Calls.{total, Value}
+use Rattle.document.specs.Calls.{total}
 use Rattle.document.specs.Entries.{Entry, at}
 use Rattle.document.specs.Nodes.{Step, Path, elem, key, value, field, alt, root, _▹_, alike, same}
 use Rattle.std.specs.shelf.Lists.{All}

@@ -1,22 +1,21 @@
 -- What `columns` writes, `fetch` reads back.
-use mathlib.Core.Path.{_≡_, refl, ap, ap₂, _∙_, sym, subst}
-use mathlib.Core.Bool.{Bool, true, false, cond, _&&_, _||_}
+use mathlib.Core.Path.{_≡_, refl, ap, ap₂, _∙_, sym}
+use mathlib.Core.Bool.{Bool, true, false, cond}
 use mathlib.Core.List.{List, [], _∷_, _++_, map as each, append-assoc}
-use Prim.Native.Nat.{ℕ, zero, suc, _+_, _-_, _≤_, _<_, _^_}
+use Prim.Native.Nat.{ℕ, suc, _+_, _-_, _≤_, _<_, _^_}
 use native.Mathlib.Omega.{arith}
-use lib.ListN.{length, length-append, length-map, take, drop, replicate}
-use lib.Dec.{eqb, ltb, leb}
+use lib.ListN.{length, length-append, length-map, drop, replicate}
+use lib.Dec.{ltb, leb}
 use Rattle.std.proofs.shelf.Ways.{tells}
 use Rattle.std.proofs.shelf.Lists.{drop-at, take-at}
 use Rattle.std.proofs.shelf.Tests.{lt-ltb, le-leb, and-from}
 use Rattle.column.specs.Meaning.{Meaning, Lawful}
-use Rattle.column.specs.Parsed.{Parsed, got}
 use Rattle.column.specs.Widths.{listed, Below}
 use Rattle.document.proofs.Sound.{Fits}
 use Rattle.utf8.specs.Passes.{passes}
 use Rattle.document.specs.Calls.{width, total, Kind, SCALAR, TEXT, SEQ, MAP, ENUM, UNIT, TUPLE, Cell, number, letters, num, str, Value, scalar, text, unit, none, some, variant, seq, map, tuple, kind, cell, extent}
 use Rattle.document.specs.Columns.{short, longs, sum, limit, joined, lengthBytes, columns}
-use Rattle.document.specs.Fetch.{Supply, supply, parted, Fetched, fetched, denied, andThen, from, numbers, beyond, merged, limited, lengths, cut, allPass, tested, texts, asNumbers, asLetters, fetch}
+use Rattle.document.specs.Fetch.{supply, parted, fetched, andThen, numbers, beyond, merged, limited, lengths, cut, allPass, tested, texts, asNumbers, asLetters, fetch}
 use Rattle.document.specs.Tables.{cells, lengthCells}
 use Rattle.document.specs.declared.scalars.Scalar.{Scalar}
 use Rattle.document.specs.declared.scalars.Scalar.the-variants.{Bool as Bit, U8, U16, U32, U64, I8, I16, I32, I64, F32}

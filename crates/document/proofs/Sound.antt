@@ -2,17 +2,17 @@
 use mathlib.Core.Path.{_≡_}
 use mathlib.Core.List.{List, [], _∷_}
 use mathlib.Core.Bool.{true}
-use Prim.Native.Nat.{ℕ, _+_, _<_, _≤_, _^_}
+use Prim.Native.Nat.{_+_, _<_, _≤_, _^_}
 use Rattle.std.specs.shelf.Lists.{All}
 use Rattle.utf8.specs.Passes.{passes}
-use Rattle.document.specs.Calls.{width, total, extent, Value, scalar, text, unit, none, some, variant, seq, map, tuple, kind, Call, val, end}
+use Rattle.document.specs.Calls.{width, total, extent, Value, scalar, text, unit, none, some, variant, seq, map, tuple, kind, Call}
 use Rattle.document.specs.Nodes.{Path}
 use Rattle.document.specs.Entries.{at}
 use Rattle.document.specs.Places.{start, Complete}
 use Rattle.document.specs.Trace.{trace}
 use Rattle.document.specs.Columns.{limit}
 use Rattle.document.specs.Tables.{cellsOf, recordsOf, usableNodes, usableCells}
-use Rattle.document.specs.Verdict.{Sizes, Real, Accepted, Done}
+use Rattle.document.specs.Verdict.{Sizes}
 
 -- a value that its column can hold
 abbrev pub Fits : Value → Type 0

@@ -1,20 +1,18 @@
 -- What is still to be taken of the tables: sums over all nodes, of which each call lowers one.
 use mathlib.Core.Path.{_≡_, refl, ap, ap₂, _∙_, sym, subst}
-use mathlib.Core.Bool.{Bool, true, false, cond, not, _&&_, _||_}
-use mathlib.Core.List.{List, [], _∷_, _++_, map as each, append-assoc, append-nil}
-use Prim.Native.Nat.{ℕ, zero, suc, _+_, _≤_, _<_}
+use mathlib.Core.Bool.{Bool, true, false, cond, not, _||_}
+use mathlib.Core.List.{List, [], _∷_, _++_}
+use Prim.Native.Nat.{ℕ, _+_, _≤_}
 use native.Mathlib.Omega.{arith}
 use lib.Dec.{eqb}
 use Rattle.std.proofs.shelf.Ways.{tells}
-use Rattle.column.specs.Meaning.{Meaning}
-use Rattle.document.proofs.Sound.{Sound}
-use Rattle.document.specs.Bytes.{keep, others, firsts}
-use Rattle.document.specs.Calls.{Value, unit, kind, total}
+use Rattle.document.specs.Bytes.{others, firsts}
+use Rattle.document.specs.Calls.{Value, kind, total}
 use Rattle.document.specs.Entries.{Entry, entry, at}
-use Rattle.document.specs.Nodes.{Path, root, _▹_, alt, same}
+use Rattle.document.specs.Nodes.{Path, _▹_, alt, same}
 use Rattle.document.specs.Tables.{cells, cellsOf, takes, Branch, unbranched, branch, branchOf, newBranch, withBranch, branches, marks}
 use Rattle.std.specs.shelf.Lists.{All}
-use Rattle.document.proofs.Paths.{same-self, same-true, at-append}
+use Rattle.document.proofs.Paths.{same-self, same-true}
 use Rattle.document.proofs.Between.{unseen, isNil, not-nil, at-here, at-past, at-on, at-off}
 
 -- ---- sums over nodes

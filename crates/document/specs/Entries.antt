@@ -1,7 +1,7 @@
 -- Entries: what a value call leaves at which nodes.
 use mathlib.Core.List.{List, [], _∷_}
 use mathlib.Core.Bool.{cond}
-use Prim.Native.Nat.{ℕ, zero, suc}
+use Prim.Native.Nat.{zero, suc}
 use Rattle.document.specs.Calls.{Value, scalar, text, unit, none, some, variant, seq, map, tuple}
 use Rattle.document.specs.Nodes.{Path, _▹_, alt, same}
 

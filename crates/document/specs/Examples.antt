@@ -1,13 +1,12 @@
 -- Worked examples of the definitions, as one check that computes.
 use mathlib.Core.Bool.{Bool, true, false, _&&_}
-use mathlib.Core.List.{List, [], _∷_, _++_}
-use Prim.Native.Nat.{ℕ, zero, suc, _+_}
+use mathlib.Core.List.{List, [], _∷_}
+use Prim.Native.Nat.{ℕ}
 use lib.Dec.{eqb}
 use lib.ListN.{replicate}
 use lib.IntN.{negsuc}
 use Rattle.std.specs.declared.result.Result.{Result}
 use Rattle.std.specs.declared.result.Result.the-variants.{Ok, Err}
-use Rattle.column.specs.Meaning.{Meaning}
 use Rattle.column.specs.Flat.{flat}
 use Rattle.column.specs.Short.{shortKind}
 use Rattle.column.specs.Steps.{steps}
@@ -18,8 +17,12 @@ use Rattle.document.specs.declared.questions.Question.the-variants as question
 use Rattle.document.specs.declared.calls.Call.the-variants as spoken
 use Rattle.document.specs.Refusals.{numberOf}
 use Rattle.document.specs.Said.{said}
-use Rattle.document.specs.Calls.{Value, scalar, text, unit, none, some, variant, seq, map, tuple, Call, val, end}
+use Rattle.document.specs.Calls.{scalar, text, unit, none, some, variant, seq, map, tuple, Call, val, end}
+use Rattle.document.specs.Nodes.{Path, root, _▹_, elem, field, same}
+use Rattle.document.specs.Places.{start}
+use Rattle.document.specs.Trace.{trace}
 use Rattle.document.specs.Bytes.{bytes}
+use Rattle.document.specs.Records.{nodesOf}
 use Rattle.document.specs.Columns.{lengthBytes}
 use Rattle.document.specs.Verdict.{Sizes, verdict}
 use Rattle.document.specs.WriteOut.{writeOut}
@@ -31,6 +34,12 @@ equal [] [] = true
 equal [] (y ∷ ys) = false
 equal (x ∷ xs) [] = false
 equal (x ∷ xs) (y ∷ ys) = eqb x y && equal xs ys
+
+abbrev equalNodes : List Path → List Path → Bool
+equalNodes [] [] = true
+equalNodes [] (q ∷ qs) = false
+equalNodes (p ∷ ps) [] = false
+equalNodes (p ∷ ps) (q ∷ qs) = same p q && equalNodes ps qs
 
 abbrev u8 : ℕ → Call
 u8 n = val (scalar U8 n)
@@ -66,6 +75,10 @@ written =
     && equal (bytes shortKind (val (scalar U32 300) ∷ [])) (0xac ∷ 0x02 ∷ [])
     && equal (bytes (steps flat) (val (seq 3) ∷ u8 10 ∷ u8 12 ∷ u8 9 ∷ end ∷ [])) (0x03 ∷ 0x0a ∷ 0x02 ∷ 0xfd ∷ [])
     && flatBytes late (0x02 ∷ 0x00 ∷ 0x01 ∷ 0x00 ∷ 0x01 ∷ 0x00 ∷ [])
+
+-- the nodes of the last one, in the order of their records
+abbrev pub recorded : Bool
+recorded = equalNodes (nodesOf (trace start late)) (root ∷ (root ▹ elem) ∷ (root ▹ elem ▹ field 0) ∷ (root ▹ elem ▹ field 1) ∷ (root ▹ elem ▹ field 0 ▹ elem) ∷ [])
 
 -- ---- refusals of the writer
 
@@ -128,4 +141,4 @@ refusedQuestions =
 
 -- all of them together
 abbrev pub examples : Bool
-examples = written && refusedCalls && refusedQuestions
+examples = written && recorded && refusedCalls && refusedQuestions

@@ -1,7 +1,7 @@
 -- The grammar of documents: which lists of calls are exactly one value.
 use mathlib.Core.Path.{_≡_}
 use mathlib.Core.List.{List, [], _∷_, _++_}
-use Prim.Native.Nat.{ℕ, zero, suc, _+_}
+use Prim.Native.Nat.{ℕ, suc, _+_}
 use Rattle.document.specs.Calls.{Value, scalar, text, unit, none, some, variant, seq, map, tuple, Call, val, end}
 
 -- what a value's call is followed by before the value is whole: nothing, one value, or so many values and `end`

@@ -10,6 +10,7 @@ pub mod Trace
 pub mod Columns
 pub mod Bytes
 pub mod Tables
+pub mod Records
 pub mod Verdict
 pub mod Fetch
 pub mod Reader

@@ -10,7 +10,7 @@ use Rattle.document.specs.declared.refusals.Refusal.{Refusal}
 use Rattle.document.specs.declared.refusals.Refusal.the-variants as refusals
 use Rattle.document.specs.declared.questions.Question.{Question}
 use Rattle.document.specs.declared.questions.Question.the-variants as questions
-use Rattle.document.specs.Calls.{total, Kind, SCALAR, TEXT, SEQ, MAP, ENUM, UNIT, TUPLE, Cell, num, str, Value, scalar, text, unit, none, some, variant, seq, map, tuple, Call, val, end}
+use Rattle.document.specs.Calls.{total, Kind, SCALAR, TEXT, SEQ, MAP, ENUM, TUPLE, Cell, num, str, Value, scalar, text, unit, none, some, variant, seq, map, tuple, Call, val, end}
 use Rattle.document.specs.Nodes.{Path, root, _▹_, alt, same, demand}
 use Rattle.document.specs.Places.{Place, Next, nowhere, there, next, full, opens, settle, start, tooMany}
 use Rattle.document.specs.Fetch.{Supply, supply, Fetched, fetched, denied, fetch, columnsOf}

@@ -6,7 +6,7 @@ use Rattle.column.specs.Meaning.{Meaning}
 use Rattle.document.specs.declared.refusals.Refusal.{Refusal}
 use Rattle.document.specs.declared.refusals.Refusal.the-variants as refusals
 use Rattle.document.specs.declared.questions.Question.{Question}
-use Rattle.document.specs.Calls.{Value, scalar, text, unit, none, some, variant, seq, map, tuple, Call, val, end}
+use Rattle.document.specs.Calls.{scalar, text, unit, none, some, variant, seq, map, tuple, Call, val, end}
 use Rattle.document.specs.Places.{Place}
 use Rattle.document.specs.Reader.{Reading, Reply, reply, refuse, answer}
 

@@ -1,5 +1,5 @@
 -- The calls and questions of the code, as the definitions have them.
-use mathlib.Core.Bool.{Bool, true, false, cond}
+use mathlib.Core.Bool.{Bool, cond}
 use Prim.Native.Nat.{ℕ, suc, _-_, _^_}
 use lib.IntN.{ℤ, pos, negsuc}
 use Rattle.document.specs.declared.scalars.Scalar.the-variants as scalars
@@ -7,7 +7,7 @@ use Rattle.document.specs.declared.calls.Call.{Call as Spoken}
 use Rattle.document.specs.declared.calls.Call.the-variants as spoken
 use Rattle.document.specs.declared.questions.Question.{Question}
 use Rattle.document.specs.declared.questions.Question.the-variants as questions
-use Rattle.document.specs.Calls.{Value, scalar, text, unit, none, some, variant, seq, map, tuple, Call, val, end}
+use Rattle.document.specs.Calls.{scalar, text, unit, none, some, variant, seq, map, tuple, Call, val, end}
 
 -- a signed number's bits: two's complement
 abbrev pub bits : ℕ → ℤ → ℕ

@@ -1,11 +1,10 @@
 -- What a list of calls takes of the tables.
-use mathlib.Core.List.{List, [], _∷_, map as each}
+use mathlib.Core.List.{List, [], _∷_}
 use mathlib.Core.Bool.{Bool, true, false, cond}
 use Prim.Native.Nat.{ℕ, _+_, _-_, min}
 use lib.Dec.{eqb, ltb}
 use lib.ListN.{length}
 use Rattle.document.specs.Calls.{total, Kind, SCALAR, TEXT, SEQ, MAP, ENUM, UNIT, TUPLE, Value, scalar, text, unit, none, some, variant, seq, map, tuple, kind, cell, str}
-use Rattle.document.specs.Nodes.{Path}
 use Rattle.document.specs.Entries.{Entry, at}
 use Rattle.document.specs.Bytes.{firsts}
 

@@ -2,19 +2,21 @@
 use mathlib.Core.Path.{_≡_}
 use mathlib.Core.Logic.{_↔_, _≢_}
 use mathlib.Core.List.{List, [], _∷_, _++_}
-use mathlib.Core.Bool.{Bool, true, false}
-use Prim.Native.Nat.{ℕ, _≤_}
+use mathlib.Core.Bool.{Bool, false}
+use Prim.Native.Nat.{ℕ, _+_, _≤_}
 use lib.ListN.{length}
 use lib.Dec.{T}
 use Rattle.column.specs.Meaning.{Meaning, Lawful}
 use Rattle.document.specs.declared.questions.Question.{Question}
-use Rattle.document.specs.Calls.{total, extent, Value, Call, val, end}
+use Rattle.document.specs.Calls.{total, extent, Call, val, end}
 use Rattle.document.specs.Nodes.{Path, root, _▹_, Step, demands}
-use Rattle.document.specs.Entries.{at}
-use Rattle.document.specs.Places.{start, Complete, Runs}
+use Rattle.document.specs.Entries.{Entry, at}
+use Rattle.document.specs.Places.{Place, there, next, start, Complete, Runs}
 use Rattle.document.specs.Grammar.{Document}
-use Rattle.document.specs.Trace.{trace}
+use Rattle.document.specs.Trace.{trace, placesAfter}
 use Rattle.document.specs.Bytes.{bytes}
+use Rattle.document.specs.Tables.{recordsOf}
+use Rattle.document.specs.Records.{nodesOf, times}
 use Rattle.document.specs.Verdict.{Sizes, Accepted, Done}
 use Rattle.document.specs.Said.{asked}
 use Rattle.document.specs.Reader.{begin}
@@ -29,6 +31,13 @@ pub record Grammatical : Type 0 where
 abbrev pub Conservation : Type 0
 Conservation = (sizes : Sizes) (cs : List Call) → Accepted sizes cs → Done cs
     → (length (at root (trace start cs)) ≡ 1) × ((p : Path) (s : Step) → length (at (p ▹ s) (trace start cs)) ≡ total (demands s) (at p (trace start cs)))
+
+-- Node records: as many as the tables are charged for, no node with two, and one at each node that has a value or at which one is next.
+pub record Allocation : Type 0 where
+  pub count : (ts : List Entry) → length (nodesOf ts) ≡ 1 + recordsOf ts
+  pub once : (ts : List Entry) (q : Path) → times q (nodesOf ts) ≤ 1
+  pub visited : (sizes : Sizes) (cs : List Call) → Accepted sizes cs → (q : Path) → at q (trace start cs) ≢ [] → times q (nodesOf (trace start cs)) ≡ 1
+  pub awaited : (sizes : Sizes) (cs : List Call) → Accepted sizes cs → (f g : Place) (fs : List Place) (q : Path) → placesAfter start cs ≡ f ∷ fs → next f ≡ there q g → times q (nodesOf (trace start cs)) ≡ 1
 
 -- q asks for the call c, flagged only where its length is no more than 65,536
 abbrev pub Asks : Question → Call → Type 0

@@ -1,7 +1,7 @@
 -- The writer's verdict on the next call, and the lists that it accepts.
 use mathlib.Core.Path.{_≡_}
 use mathlib.Core.List.{List, [], _∷_, _++_}
-use mathlib.Core.Bool.{Bool, true, false, cond, not, _&&_, _||_}
+use mathlib.Core.Bool.{Bool, false, cond, not, _&&_, _||_}
 use Prim.Native.Nat.{ℕ, _+_, _<_, _^_}
 use lib.Dec.{eqb, ltb, leb}
 use Rattle.std.specs.declared.result.Result.{Result}
@@ -13,7 +13,7 @@ use Rattle.document.specs.declared.refusals.Refusal.{Refusal}
 use Rattle.document.specs.declared.refusals.Refusal.the-variants as refusals
 use Rattle.document.specs.Calls.{width, total, extent, Kind, SCALAR, TEXT, SEQ, MAP, ENUM, UNIT, TUPLE, Value, scalar, text, unit, none, some, variant, seq, map, tuple, kind, cell, num, str, Call, val, end}
 use Rattle.document.specs.Entries.{Entry, at}
-use Rattle.document.specs.Places.{Place, Turn, stays, goes, turn, start}
+use Rattle.document.specs.Places.{Turn, stays, goes, turn, start}
 use Rattle.document.specs.Trace.{trace, placesAfter}
 use Rattle.document.specs.Columns.{limit}
 use Rattle.document.specs.Tables.{cellsOf, recordsOf, lettersOf, usableNodes, usableCells, usableText}

@@ -2,7 +2,7 @@
 
 ghost use mathlib.Core.Path.{_≡_};
 ghost use mathlib.Core.Bool.{true};
-ghost use Rattle.document.specs.Theorems.{Grammatical, Conservation, Replays-within, Replays, Faithful};
+ghost use Rattle.document.specs.Theorems.{Grammatical, Conservation, Allocation, Replays-within, Replays, Faithful};
 ghost use Rattle.document.specs.Examples.{examples};
 
 /// A law that is proved. A function below answers each, and its contract is the law.
@@ -10,6 +10,7 @@ ghost use Rattle.document.specs.Examples.{examples};
 pub enum Law {
     Grammar,
     Conservation,
+    Allocation,
     Replay,
     Faithfulness,
     Examples,
@@ -29,6 +30,14 @@ pub fn conservation() -> Law
     ensures law { λ _. ⌜ Conservation ⌝ }
 {
     Law::Conservation
+}
+
+/// Node records are as many as the table is charged for, no node has two, and each that has a value or at which one is next has one.
+pub fn allocation() -> Law
+    ensures answer { λ r. ⌜ r ≡ Law.Allocation ⌝ }
+    ensures law { λ _. ⌜ Allocation ⌝ }
+{
+    Law::Allocation
 }
 
 /// A reader over an accepted document's bytes hears its calls, over every column kind, and finishes; bytes after the document are left.

@@ -1,7 +1,6 @@
-use mathlib.Core.Path.{_≡_, refl, sym, _∙_, ap, subst}
 use native.Mathlib.Omega.{arith}
-use Prim.Native.Nat.{ℕ, _+_, _-_, _<_, _≤_}
-use lib.ListN.{length, drop, length-drop}
+use Prim.Native.Nat.{_-_}
+use lib.ListN.{length, length-drop}
 use Rattle.std.proofs.shelf.Results.{made-from-err}
 use Rattle.column.specs.Widths.{listed}
 use Rattle.column.proofs.Choice.{chose, passed-on}

@@ -1,6 +1,5 @@
 use native.Mathlib.Omega.{arith}
-use mathlib.Core.Path.{_≡_, refl, sym, _∙_, ap}
-use lib.ListN.{length, getD, drop, length-drop}
+use lib.ListN.{drop, length-drop}
 use Rattle.std.proofs.shelf.Lists.{getD-drop}
 use Rattle.column.proofs.Leb128.{front-more, front-last, front-short, front-bad}
 use Rattle.column.proofs.short.form_size.Needs as need

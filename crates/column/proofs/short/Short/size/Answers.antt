@@ -1,7 +1,6 @@
 use native.Mathlib.Omega.{arith}
-use mathlib.Core.Path.{_≡_, refl, sym, _∙_, ap}
+use mathlib.Core.Path.{ap}
 use lib.ListN.{length}
-use Rattle.column.specs.Short.{leb128}
 use Rattle.column.proofs.Leb128.{leb-small, leb-more, leb-fewest, length-leb}
 use Rattle.column.proofs.short.Short.size.Needs as need
 

@@ -1,13 +1,11 @@
-use mathlib.Core.Path.{_≡_, refl, sym, _∙_, ap}
-use Prim.Native.Nat.{ℕ, _+_, _<_}
+use mathlib.Core.Path.{ap}
+use Prim.Native.Nat.{_+_}
 use native.Mathlib.Omega.{arith}
 use native.Mathlib.Nat.{add-zero}
-use lib.Dec.{leb}
 use lib.ListN.{length}
 use Rattle.std.specs.declared.result.Result.the-variants.{Ok, Err}
 use Rattle.std.proofs.shelf.Tests.{le-leb, lt-leb}
 use Rattle.column.specs.declared.fault.Cause.the-variants.{Room}
-use Rattle.column.specs.Parsed.{fault}
 use Rattle.column.specs.Short.{leb128}
 use Rattle.column.proofs.Choice.{found-here}
 use Rattle.column.proofs.Leb128.{grouping-more, grouping-last, grouping-none}

@@ -1,11 +1,10 @@
-use mathlib.Core.Path.{_≡_, refl, sym, _∙_, ap}
-use Prim.Native.Nat.{ℕ, _+_, _-_, _<_, _≤_, _^_}
+use mathlib.Core.Path.{_≡_}
+use Prim.Native.Nat.{_-_, _≤_}
 use native.Mathlib.Omega.{arith}
-use lib.ListN.{length, getD, take, drop, length-drop}
+use lib.ListN.{getD, drop, length-drop}
 use lib.Pow.{pow-pos}
 use Rattle.std.proofs.shelf.Lists.{getD-drop}
 use Rattle.column.specs.Widths.{listed}
-use Rattle.column.specs.Digits.{total}
 use Rattle.column.proofs.Choice.{chose}
 use Rattle.column.proofs.Leb128.{front-got, form-fits, form-large, one-bad, one-got}
 use Rattle.column.proofs.short.ShortCode.take.Needs as need
