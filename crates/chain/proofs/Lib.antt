@@ -1,0 +1,4 @@
+pub mod Courses
+pub mod Links
+pub mod Tables
+pub mod Replies
