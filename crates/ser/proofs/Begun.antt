@@ -1,0 +1,55 @@
+-- A new writer stands for no call.
+use Rattle.std.proofs.Common.{◌≡◌, ℕ, cond, ltb, List, [], ◌∷◌, length, get_or, set, sym, refl, ap, ◌∙◌, inl, ⊎_elim, arith, get_or-set_same}
+use Rattle.std.proofs.lemmas.List.{get_or_past}
+use Rattle.std.proofs.lemmas.Bool.{cases_lt, cond-true, cond-false, lt-ltb, le-ltb}
+use Rattle.document.specs.Nodes.{Path, root}
+use Rattle.ser.specs.declared.places.State.TheVariants as states
+use Rattle.ser.specs.declared.records.Node.{Node}
+use Rattle.ser.specs.declared.desk.Desk.{Desk}
+use Rattle.ser.specs.Moves.{blankNode, sheets, node}
+use Rattle.ser.specs.Held.{Home, ordinal}
+use Rattle.ser.specs.Standing.{Stands}
+
+-- a desk whose tables have the root's record alone, blank, and whose only open place is the root's
+pub begun : (d : Desk) → d.tables.used ≡ 2 → d.tables.taken ≡ 1 → d.tables.filled ≡ 0 → d.tables.marked ≡ 0 → node (sheets d.tables) 1 ≡ blankNode
+    → d.depth ≡ 1 → length d.places ≡ 32 → (get_or d.places 0 (record { state = states.Root })).state ≡ states.Root → Stands d []
+begun d used taken filled marked blank depth long first =
+    record {
+      accepted = tt;
+      holds =
+          record {
+            holding =
+                record {
+                  used = used;
+                  taken = taken;
+                  filled = filled;
+                  marked = marked;
+                  marks = λ r p h. ap (λ (n : Node). n.mark) (is r p h);
+                  sums = λ r p h. ap (λ (n : Node). n.sum) (is r p h);
+                  indices = λ r p h. ap (λ (n : Node). n.index) (is r p h) ∙ ap ordinal (rooted r p h);
+                  children = λ r p h. (ap (λ (n : Node). n.children.first) (is r p h), sym (ap (λ (n : Node). n.children.last) (is r p h)));
+                  cells = λ r p h. (ap (λ (n : Node). n.cells.first) (is r p h), sym (ap (λ (n : Node). n.cells.last) (is r p h)));
+                  values = λ k l. absurd (omega arith);
+                  order = λ j l. absurd (omega arith);
+                };
+          };
+      opens = rw (depth, first) (inl (refl, refl, refl));
+      depth = omega arith;
+      places = long;
+    }
+  where
+    one : (r : ℕ) (p : Path) → Home (root ∷ []) r p → r ≡ 1
+    one r p h = omega (arith, h.0, h.1)
+
+    is : (r : ℕ) (p : Path) → Home (root ∷ []) r p → node (sheets d.tables) r ≡ blankNode
+    is r p h = rw (one r p h) blank
+
+    rooted : (r : ℕ) (p : Path) → Home (root ∷ []) r p → root ≡ p
+    rooted r p h = rw (one r p h) at h.2
+
+-- the record of a new root is blank, where the table has one
+pub root-blank : (ns : List Node) (n : ℕ) → n ≡ length ns → get_or (cond (ltb 1 n) (set ns 1 blankNode) ns) 1 blankNode ≡ blankNode
+root-blank ns n e = ⊎_elim
+    (λ l. ap (λ xs. get_or xs 1 blankNode) (cond-true (ltb 1 n) (set ns 1 blankNode) ns (lt-ltb 1 n l)) ∙ get_or-set_same ns 1 blankNode blankNode (omega arith))
+    (λ l. ap (λ xs. get_or xs 1 blankNode) (cond-false (ltb 1 n) (set ns 1 blankNode) ns (le-ltb 1 n l)) ∙ get_or_past ns 1 blankNode (omega arith))
+    (cases_lt 1 n)

@@ -1,0 +1,10 @@
+pub mod Marks
+pub mod Brings
+pub mod Moves
+pub mod Tables
+pub mod Steps
+pub mod Safe
+pub mod Bounds
+pub mod Held
+pub mod Out
+pub mod Standing

@@ -1,0 +1,207 @@
+-- What the writer does to its tables, one move at a time. These mirror the code; what they come to is said in Holds.
+use Rattle.std.specs.Prelude.{ℕ, zero, suc, ◌+◌, Bool, true, false, cond, not, ◌&&◌, List, [], ◌∷◌, ◌++◌, map as each, length, get_or, vec_items, Option, ◌==◌, nat_lt, slice_index_or}
+use Rattle.std.specs.declared.option.Option.TheVariants as options
+use Rattle.column.specs.Interface.{overlaid}
+use Rattle.chain.specs.declared.Chain.{Chain}
+use Rattle.chain.specs.Chains.{adjust, appended, longer, course}
+use Rattle.document.specs.Calls.{scalar, text, unit, none, some, variant, seq, map, tuple, Call, val, end}
+use Rattle.ser.specs.declared.records.Mark.{Mark}
+use Rattle.ser.specs.declared.records.Mark.TheVariants as marks
+use Rattle.ser.specs.declared.records.Node.{Node}
+use Rattle.ser.specs.declared.records.Cell.{Cell}
+use Rattle.ser.specs.declared.loads.Load.{Load}
+use Rattle.ser.specs.declared.loads.Load.TheVariants.{Nothing, Number, Length}
+use Rattle.ser.specs.declared.store.Tables.{Tables}
+use Rattle.ser.specs.Marks.{markNumber, familyOf}
+use Rattle.ser.specs.Brings.{marking, loading, branching, is_lone}
+
+-- ---- records
+
+-- a chain of no record
+abbrev pub noChain : Chain
+noChain = record { first = 0; last = 0 }
+
+-- a record of a child with this index, without a value
+abbrev pub child : ℕ → Node
+child i = record { mark = marks.Unmarked; sum = 0; index = i; next = 0; children = noChain; cells = noChain; order = 0 }
+
+abbrev pub blankNode : Node
+blankNode = child 0
+
+abbrev pub blankCell : Cell
+blankCell = record { value = 0; start = 0; next = 0 }
+
+-- a record with another field
+abbrev pub withNext : Node → ℕ → Node
+withNext n k = record { mark = n.mark; sum = n.sum; index = n.index; next = k; children = n.children; cells = n.cells; order = n.order }
+
+abbrev pub withMark : Mark → Node → Node
+withMark m n = record { mark = m; sum = n.sum; index = n.index; next = n.next; children = n.children; cells = n.cells; order = n.order }
+
+abbrev pub with_sum : ℕ → Node → Node
+with_sum x n = record { mark = n.mark; sum = n.sum + x; index = n.index; next = n.next; children = n.children; cells = n.cells; order = n.order }
+
+abbrev pub withChildren : Chain → Node → Node
+withChildren c n = record { mark = n.mark; sum = n.sum; index = n.index; next = n.next; children = c; cells = n.cells; order = n.order }
+
+abbrev pub withCells : Chain → Node → Node
+withCells c n = record { mark = n.mark; sum = n.sum; index = n.index; next = n.next; children = n.children; cells = c; order = n.order }
+
+abbrev pub withOrder : ℕ → Node → Node
+withOrder r n = record { mark = n.mark; sum = n.sum; index = n.index; next = n.next; children = n.children; cells = n.cells; order = r }
+
+abbrev pub cellWithNext : Cell → ℕ → Cell
+cellWithNext c k = record { value = c.value; start = c.start; next = k }
+
+-- ---- tables
+
+-- the tables as lists
+pub record Sheets : Type 0 where
+  pub nodes : List Node
+  pub cells : List Cell
+  pub text : List ℕ
+  pub used : ℕ
+  pub taken : ℕ
+  pub filled : ℕ
+  pub marked : ℕ
+
+abbrev pub sheets : Tables → Sheets
+sheets t = record { nodes = vec_items t.nodes; cells = vec_items t.cells; text = vec_items t.text; used = t.used; taken = t.taken; filled = t.filled; marked = t.marked }
+
+-- a node's record, a blank one past the table's end
+abbrev pub node : Sheets → ℕ → Node
+node T r = slice_index_or T.nodes r blankNode
+
+abbrev pub cell_at : Sheets → ℕ → Cell
+cell_at T k = slice_index_or T.cells k blankCell
+
+-- a node without a value
+abbrev pub isFresh : Sheets → ℕ → Bool
+isFresh T r = markNumber (node T r).mark == 0
+
+-- a new record, as the last child of r
+abbrev pub spawned : ℕ → ℕ → Sheets → Sheets
+spawned r i T =
+    record {
+      nodes = adjust (withChildren (longer (node T r).children T.used)) r (appended withNext T.nodes (node T r).children.last T.used (child i));
+      cells = T.cells;
+      text = T.text;
+      used = T.used + 1;
+      taken = T.taken;
+      filled = T.filled;
+      marked = T.marked;
+    }
+
+-- .. and so many
+abbrev pub grown : ℕ → ℕ → Sheets → Sheets
+grown r zero T = T
+grown r (suc n) T = spawned r n (grown r n T)
+
+-- r is marked, and is next in the order of marking
+abbrev pub named : ℕ → Mark → Sheets → Sheets
+named r m T =
+    record {
+      nodes = adjust (withOrder r) (T.marked + 1) (adjust (withMark m) r T.nodes);
+      cells = T.cells;
+      text = T.text;
+      used = T.used;
+      taken = T.taken;
+      filled = T.filled;
+      marked = T.marked + 1;
+    }
+
+-- a first value marks its node, whose children come with it
+abbrev pub touched : ℕ → Mark → Sheets → Sheets
+touched r m T = cond (isFresh T r) (grown r (familyOf m) (named r m T)) T
+
+-- a value goes to a cell, as the last of r's; the tables are charged so many cells
+abbrev pub celled : ℕ → ℕ → ℕ → ℕ → Sheets → Sheets
+celled r v more x T =
+    record {
+      nodes = adjust (withCells (longer (node T r).cells T.taken)) r (adjust (with_sum x) r T.nodes);
+      cells = appended cellWithNext T.cells (node T r).cells.last T.taken (record { value = v; start = T.filled; next = 0 });
+      text = T.text;
+      used = T.used;
+      taken = T.taken + more;
+      filled = T.filled;
+      marked = T.marked;
+    }
+
+-- what a node keeps of a call
+abbrev pub kept : ℕ → Load → Sheets → Sheets
+kept r Nothing T = T
+kept r (Number v) T = celled r v 1 0 T
+kept r (Length n) T = celled r n (cond (nat_lt n 255) 1 2) n T
+
+-- text bytes go to the text table
+abbrev pub written : List ℕ → Sheets → Sheets
+written bs T = record { nodes = T.nodes; cells = T.cells; text = overlaid T.filled bs T.text; used = T.used; taken = T.taken; filled = T.filled + length bs; marked = T.marked }
+
+-- the letters of a call
+abbrev pub lettered : Call → Sheets → Sheets
+lettered (val (scalar k b)) T = T
+lettered (val (text bs)) T = written bs T
+lettered (val unit) T = T
+lettered (val none) T = T
+lettered (val some) T = T
+lettered (val (variant i)) T = T
+lettered (val (seq n)) T = T
+lettered (val (map n)) T = T
+lettered (val (tuple n)) T = T
+lettered end T = T
+
+-- ---- the child of an index
+
+-- the first of these records that has the index, 0 where there is none
+abbrev pub seek : List Node → ℕ → List ℕ → ℕ
+seek ns i [] = 0
+seek ns i (k ∷ ks) = cond ((get_or ns k blankNode).index == i) k (seek ns i ks)
+
+-- the child of r with the index
+abbrev pub childOf : Sheets → ℕ → ℕ → ℕ
+childOf T r i = seek T.nodes i (course (each (λ n. n.next) T.nodes) (node T r).children.first)
+
+-- the child of an index that a call has
+abbrev pub branchIn : Sheets → ℕ → Option ℕ → ℕ
+branchIn T r options.None = 0
+branchIn T r (options.Some i) = childOf T r i
+
+-- a new index gets a record; k is its child as it was found
+abbrev pub branched : ℕ → ℕ → Option ℕ → Sheets → Sheets
+branched r k options.None T = T
+branched r k (options.Some i) T = cond (k == 0) (spawned r i T) T
+
+-- the record of the child then
+abbrev pub branchThen : ℕ → Option ℕ → Sheets → ℕ
+branchThen k options.None T = k
+branchThen k (options.Some i) T = cond (k == 0) T.used k
+
+-- ---- a call
+
+-- one value at r
+abbrev pub put : ℕ → ℕ → Call → Sheets → Sheets
+put r k c T = lettered c (kept r (loading c) (branched r k (branching c) (touched r (marking c) T)))
+
+-- the child of its index
+abbrev pub putChild : ℕ → ℕ → Call → Sheets → ℕ
+putChild r k c T = branchThen k (branching c) (touched r (marking c) T)
+
+-- a `none` is followed by its unit
+abbrev pub unitAfter : Call → ℕ → Sheets → Sheets
+unitAfter (val (scalar k b)) r T = T
+unitAfter (val (text bs)) r T = T
+unitAfter (val unit) r T = T
+unitAfter (val none) r T = touched r marks.Unit T
+unitAfter (val some) r T = T
+unitAfter (val (variant i)) r T = T
+unitAfter (val (seq n)) r T = T
+unitAfter (val (map n)) r T = T
+unitAfter (val (tuple n)) r T = T
+unitAfter end r T = T
+
+-- all that a call does to the tables at r, and the child of its index then
+abbrev pub entered : ℕ → ℕ → Call → Sheets → Sheets
+entered r k c T = cond (is_lone c) T (unitAfter c (putChild r k c T) (put r k c T))
+
+abbrev pub enteredChild : ℕ → ℕ → Call → Sheets → ℕ
+enteredChild r k c T = cond (is_lone c) k (putChild r k c T)

@@ -1,0 +1,144 @@
+//! One call, by the innermost place's state.
+
+ghost use Rattle.std.specs.Prelude.{◌≡◌, ◌+◌, ◌<◌, ◌≤◌, [], length};
+ghost use Rattle.document.specs.Said.{said};
+ghost use Rattle.document.specs.Verdict.{Real};
+ghost use Rattle.ser.specs.Moves.{sheets};
+ghost use Rattle.ser.specs.Steps.{stack, settled, opening, top, outcome, calling, Took, Did};
+ghost use Rattle.ser.specs.Safe.{Safe};
+
+use super::Desk;
+use crate::loads::is_opening;
+use crate::places::{Place, State};
+use document::calls::Call;
+use document::refusals::Refusal;
+
+/// At most so many places are open.
+const MOST_OPEN: usize = 32;
+
+impl Desk {
+    /// Places close with their one value.
+    fn settle(&mut self)
+        requires { self.old.depth ≤ 32 }
+        ensures states { stack self.new.places self.new.depth ≡ settled (stack self.old.places self.old.depth) }
+        ensures depth { self.new.depth ≤ self.old.depth }
+        ensures places { self.new.places ≡ self.old.places }
+        ensures tables { self.new.tables ≡ self.old.tables }
+    {
+        while self.depth > 0 {
+            let state = self.places[self.depth - 1].state;
+            match state {
+                State::Closing => self.depth -= 1,
+                _ => return,
+            }
+        }
+    }
+
+    /// A place is opened, where the value opens one.
+    fn open(&mut self, opened: Option<State>)
+        requires room { length (opening opened []) + self.old.depth ≤ 32 }
+        requires places { 32 ≤ length self.old.places }
+        ensures states { stack self.new.places self.new.depth ≡ opening opened (stack self.old.places self.old.depth) }
+        ensures depth { self.new.depth ≤ 32 }
+        ensures places { length self.new.places ≡ length self.old.places }
+        ensures tables { self.new.tables ≡ self.old.tables }
+    {
+        if let Some(state) = opened {
+            self.places[self.depth] = Place { state };
+            self.depth += 1;
+        }
+    }
+
+    /// The step: what the call does to the innermost place, and to the tables.
+    fn take(&mut self, call: Call, deep: bool) -> Result<Option<State>, Refusal>
+        requires safe { Safe self.old }
+        requires some { 0 < self.old.depth }
+        ensures { Took self.old self.new result (outcome deep (sheets self.old.tables) (top self.old) (said call.entry)) }
+    {
+        let place = &mut self.places[self.depth - 1];
+        match (&mut place.state, call) {
+            (
+                State::Items { left: 0, .. }
+                | State::Keys { left: 0, .. }
+                | State::Fields { left: 0, .. }
+                | State::Lone { left: 0, .. },
+                Call::End,
+            ) => {
+                place.state = State::Closing;
+                Ok(None)
+            }
+            (_, Call::End) => Err(Refusal::Count),
+            (
+                State::Items { left: 0, .. }
+                | State::Keys { left: 0, .. }
+                | State::Fields { left: 0, .. }
+                | State::Lone { left: 0, .. }
+                | State::Closing,
+                _,
+            ) => Err(Refusal::Count),
+            (State::Root, _) => {
+                let opened = self.tables.enter(1, call)?;
+                place.state = opened.unwrap_or(State::Closing);
+                Ok(None)
+            }
+            (
+                State::Items { .. }
+                | State::Keys { .. }
+                | State::Vals { .. }
+                | State::Fields { .. }
+                | State::Lone { .. }
+                | State::One { .. },
+                _,
+            ) if deep => Err(Refusal::Depth),
+            (State::Items { node, left }, _) => {
+                let opened = self.tables.enter(*node, call)?;
+                *left -= 1;
+                Ok(opened)
+            }
+            (State::Keys { node, left }, _) => {
+                let (node, left) = (*node, *left - 1);
+                let opened = self.tables.enter(node, call)?;
+                place.state = State::Vals { node, left };
+                Ok(opened)
+            }
+            (State::Vals { node, left }, _) => {
+                let (node, left) = (*node, *left);
+                let opened = self.tables.enter(node + 1, call)?;
+                place.state = State::Keys { node, left };
+                Ok(opened)
+            }
+            (State::Fields { node, left }, _) => {
+                let opened = self.tables.enter(*node, call)?;
+                *node += 1;
+                *left -= 1;
+                Ok(opened)
+            }
+            (State::Lone { node, left }, _) => {
+                let opened = self.tables.enter(*node, call)?;
+                *left -= 1;
+                Ok(opened)
+            }
+            (State::One { node }, _) => {
+                let opened = self.tables.enter(*node, call)?;
+                place.state = State::Closing;
+                Ok(opened)
+            }
+        }
+    }
+
+    /// One call.
+    pub(crate) fn call(&mut self, call: Call) -> Result<(), Refusal>
+        requires safe { Safe self.old }
+        ensures did { Did self.old self.new result (calling self.old (said call.entry)) }
+        ensures real { Real (said call.entry) }
+    {
+        let deep = is_opening(call) && self.depth == MOST_OPEN;
+        if self.depth == 0 {
+            return Err(Refusal::Complete);
+        }
+        let opened = self.take(call, deep)?;
+        self.open(opened);
+        self.settle();
+        Ok(())
+    }
+}

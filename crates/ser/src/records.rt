@@ -1,0 +1,158 @@
+//! The records of the writer's tables.
+
+ghost use Rattle.std.specs.Prelude.{◌≡◌, ◌==◌};
+ghost use Rattle.ser.specs.Marks.{markNumber, familyOf};
+ghost use Rattle.ser.specs.Moves.{blankNode, blankCell};
+ghost use Rattle.std.proofs.Common.{rules};
+
+use chain::{Chain, Linked};
+use document::scalars::Scalar;
+
+/// What a node is marked as by the first value that stands there.
+#[derive(Clone, Copy)]
+pub(crate) enum Mark {
+    Unmarked,
+    Scalar(Scalar),
+    Text,
+    Seq,
+    Map,
+    Enum,
+    Unit,
+    Tuple(u32),
+}
+
+/// A record of the node table. Its contents are the writer's own.
+#[derive(Clone, Copy)]
+pub struct Node {
+    /// The kind of its values.
+    pub(crate) mark: Mark,
+    /// The sum of its lengths.
+    pub(crate) sum: u64,
+    /// Which child of its parent it is.
+    pub(crate) index: u32,
+    /// The next child of its parent.
+    pub(crate) next: usize,
+    pub(crate) children: Chain,
+    pub(crate) cells: Chain,
+    /// Nothing of this node: record k keeps here the k-th node that was marked.
+    pub(crate) order: usize,
+}
+
+/// A record of the cell table. Its contents are the writer's own.
+#[derive(Clone, Copy)]
+pub struct Cell {
+    /// A number, an index or a length.
+    pub(crate) value: u64,
+    /// Where a text begins in the text table.
+    pub(crate) start: usize,
+    /// The next value of the same node.
+    pub(crate) next: usize,
+}
+
+impl Node {
+    /// A record to make a table of; what it holds counts for nothing.
+    pub fn blank() -> Node
+        ensures { result ≡ blankNode }
+    {
+        Node {
+            mark: Mark::Unmarked,
+            sum: 0,
+            index: 0,
+            next: 0,
+            children: Chain { first: 0, last: 0 },
+            cells: Chain { first: 0, last: 0 },
+            order: 0,
+        }
+    }
+}
+
+impl Cell {
+    /// A record to make a table of; what it holds counts for nothing.
+    pub fn blank() -> Cell
+        ensures { result ≡ blankCell }
+    {
+        Cell {
+            value: 0,
+            start: 0,
+            next: 0,
+        }
+    }
+}
+
+impl Linked for Node {
+    ghost nextOf = { λ n. n.next };
+
+    ghost withNext = { λ n k. record { mark = n.mark; sum = n.sum; index = n.index; next = k; children = n.children; cells = n.cells; order = n.order } };
+
+    ghost linked = { Prim.search rules };
+
+    fn next(&self) -> usize {
+        self.next
+    }
+
+    fn link(&mut self, next: usize) {
+        self.next = next;
+    }
+}
+
+impl Linked for Cell {
+    ghost nextOf = { λ c. c.next };
+
+    ghost withNext = { λ c k. record { value = c.value; start = c.start; next = k } };
+
+    ghost linked = { Prim.search rules };
+
+    fn next(&self) -> usize {
+        self.next
+    }
+
+    fn link(&mut self, next: usize) {
+        self.next = next;
+    }
+}
+
+impl Mark {
+    /// Marks by number, each its own.
+    fn number(self) -> u64
+        ensures { result ≡ markNumber self }
+    {
+        match self {
+            Mark::Unmarked => 0,
+            Mark::Scalar(Scalar::Bool) => 1,
+            Mark::Scalar(Scalar::U8) => 2,
+            Mark::Scalar(Scalar::U16) => 3,
+            Mark::Scalar(Scalar::U32) => 4,
+            Mark::Scalar(Scalar::U64) => 5,
+            Mark::Scalar(Scalar::I8) => 6,
+            Mark::Scalar(Scalar::I16) => 7,
+            Mark::Scalar(Scalar::I32) => 8,
+            Mark::Scalar(Scalar::I64) => 9,
+            Mark::Scalar(Scalar::F32) => 10,
+            Mark::Text => 11,
+            Mark::Seq => 12,
+            Mark::Map => 13,
+            Mark::Enum => 14,
+            Mark::Unit => 15,
+            Mark::Tuple(n) => 16 + u64::from(n),
+        }
+    }
+
+    /// Whether two marks are the same.
+    pub(crate) fn is(self, other: Mark) -> bool
+        ensures { result ≡ (markNumber self == markNumber other) }
+    {
+        self.number() == other.number()
+    }
+
+    /// How many children come with the mark.
+    pub(crate) fn family(self) -> u32
+        ensures { result ≡ familyOf self }
+    {
+        match self {
+            Mark::Seq => 1,
+            Mark::Map => 2,
+            Mark::Tuple(n) => n,
+            _ => 0,
+        }
+    }
+}

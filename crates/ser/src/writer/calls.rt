@@ -1,0 +1,122 @@
+//! A writer begins, takes calls, closes, and is written out.
+
+ghost use Rattle.std.specs.Prelude.{◌≡◌, List, [], if◌then◌else◌, vec_len, nat_lt, slice_set};
+ghost use Rattle.document.specs.Calls.{Call as Said};
+ghost use Rattle.document.specs.Said.{said};
+ghost use Rattle.ser.specs.Moves.{blankNode};
+ghost use Rattle.ser.specs.Standing.{Stands, Told, WrittenOut};
+
+use super::{Closed, Writer};
+use crate::desk::Desk;
+use crate::places::{Place, State};
+use crate::records::{Cell, Node};
+use crate::store::Tables;
+use column::interface::Column;
+use document::calls::Call;
+use document::refusals::Refusal;
+
+/// The tables of a writer, as its caller gets them back.
+#[derive(Drop)]
+pub struct Parts {
+    pub nodes: Vec<Node>,
+    pub cells: Vec<Cell>,
+    pub text: Vec<u8>,
+}
+
+/// A blank record for the root, if the table has one.
+fn rooted(mut nodes: Vec<Node>) -> Vec<Node>
+    ensures items { result.items ≡ (if nat_lt 1 (vec_len nodes) then slice_set nodes.items 1 blankNode else nodes.items) }
+    ensures length { vec_len result ≡ vec_len nodes }
+{
+    if nodes.len() > 1 {
+        nodes[1] = Node::blank();
+    }
+    nodes
+}
+
+impl Writer {
+    /// A writer over these tables, whose lengths are its budget. What they hold counts for nothing, and but for the root's record it stays.
+    pub fn new(nodes: Vec<Node>, cells: Vec<Cell>, text: Vec<u8>) -> Writer
+        ensures stands { Stands result.desk [] }
+        ensures nodes { result.desk.tables.nodes.items ≡ (if nat_lt 1 (vec_len nodes) then slice_set nodes.items 1 blankNode else nodes.items) }
+        ensures cells { result.desk.tables.cells ≡ cells }
+        ensures text { result.desk.tables.text ≡ text }
+    {
+        let nodes = rooted(nodes);
+        let tables = Tables {
+            nodes,
+            cells,
+            text,
+            used: 2,
+            taken: 1,
+            filled: 0,
+            marked: 0,
+        };
+        let places = [Place { state: State::Root }; 32];
+        let desk = Desk {
+            tables,
+            places,
+            depth: 1,
+        };
+        Writer { desk }
+    }
+
+    /// One call. The answer is the verdict on it after the calls that the writer stands for:
+    /// refused, the writer is as it was, tables included; accepted, it stands for one call more.
+    pub fn call(&mut self, call: Call) -> Result<(), Refusal>
+        ensures { (cs : List Said) → Stands self.old.desk cs → Told self.old.desk self.new.desk cs (said call.entry) result }
+    {
+        self.desk.call(call)
+    }
+
+    /// Closes the writer, which cannot be refused.
+    pub fn close(self) -> Closed
+        ensures { result.desk ≡ self.desk }
+    {
+        let Writer { desk } = self;
+        Closed { desk }
+    }
+}
+
+impl Closed {
+    /// Writes the document out, and answers the number of its bytes, which begin the output. It may be repeated, and then says the same.
+    ///
+    /// `Early` where the document is not complete, then `Scratch` where the scratch is shorter than the cells taken: neither buffer is touched.
+    /// Else the whole scratch is zero afterwards. Accepted, no other byte of the output changes; `Room` leaves the whole output zero.
+    pub fn write_out<C: Column>(
+        &self,
+        kind: &C,
+        scratch: &mut [u64],
+        output: &mut [u8],
+    ) -> Result<usize, Refusal>
+        ensures { (cs : List Said) → Stands self.now.desk cs → WrittenOut (C.Column.meaning kind.now) cs scratch.old scratch.new output.old output.new result }
+    {
+        self.desk
+            .tables
+            .write_out(self.desk.depth == 0, kind, scratch, output)
+    }
+
+    /// The tables, for the next writer.
+    pub fn into_tables(self) -> Parts
+        ensures nodes { result.nodes ≡ self.desk.tables.nodes }
+        ensures cells { result.cells ≡ self.desk.tables.cells }
+        ensures text { result.text ≡ self.desk.tables.text }
+    {
+        let Closed { desk } = self;
+        let Desk {
+            tables,
+            places: _,
+            depth: _,
+        } = desk;
+        let Tables {
+            nodes,
+            cells,
+            text,
+            used: _,
+            taken: _,
+            filled: _,
+            marked: _,
+        } = tables;
+        Parts { nodes, cells, text }
+    }
+}
