@@ -1,0 +1,46 @@
+-- A search among the children of a record.
+use Rattle.std.proofs.Common.{◌≡◌, ℕ, ◌<◌, Bool, true, false, cond, eqb, ◌⊎◌, List, [], ◌∷◌, map, length, get_or, sym, refl, ap, ◌∙◌, inl, inr, one-add, arith}
+use Rattle.std.specs.List.{AllByRecursion as All}
+use Rattle.std.proofs.lemmas.List.{get_or-map}
+use Rattle.std.proofs.lemmas.Bool.{cond-true, cond-false, eq-eqb, ne_eqb, eqb-true, eqb-false}
+use Rattle.document.specs.Nodes.{Path, root, ◌▹◌, Step}
+use Rattle.document.proofs.Paths.{same_true}
+use Rattle.nodes.specs.Homes.{node_of, Home, isChild, places}
+use Rattle.nodes.specs.Children.{seek}
+use Rattle.nodes.proofs.PlacesOf.{places-all}
+
+-- A record's index, as it stands among the indices.
+pub index_at : {R : Type 0} (indexOf : R → ℕ) (table : List R) (k : ℕ) (x : R) → k < length table → x ≡ get_or table k x → indexOf x ≡ get_or (map indexOf table) k 0
+index_at indexOf table k x l e = ap indexOf e ∙ sym (get_or-map indexOf table k x 0 l)
+
+module _ (indices : List ℕ) (i k : ℕ) (all rest : List ℕ) (x : ℕ) (e : all ≡ k ∷ rest) (at : x ≡ get_or indices k 0) where
+  -- A record with another index is passed over.
+  pub seek-past : (x ≡ i → ⊥) → seek indices i rest ≡ seek indices i all
+  seek-past ne = sym (ap (seek indices i) e ∙ cond-false (eqb (get_or indices k 0) i) _ _ (ne_eqb _ i (λ z. ne (at ∙ z))))
+
+  -- The first with the index is found.
+  pub seek-here : x ≡ i → k ≡ seek indices i all
+  seek-here z = sym (ap (seek indices i) e ∙ cond-true (eqb (get_or indices k 0) i) _ _ (eq-eqb _ i (sym at ∙ z)))
+
+-- The first of some records with an index: there is none and the answer is 0, or it is one of them and has the index.
+pub seek_found : (indices : List ℕ) (i : ℕ) (P : ℕ → Type 0) (ks : List ℕ) → All P ks
+    → ((seek indices i ks ≡ 0) × All (λ k. get_or indices k 0 ≡ i → ⊥) ks) ⊎ (P (seek indices i ks) × (get_or indices (seek indices i ks) 0 ≡ i))
+seek_found indices i P [] h = inl (refl, tt)
+seek_found indices i P (k ∷ ks) (p, ps) = go (eqb (get_or indices k 0) i) refl (seek_found indices i P ks ps)
+  where
+    go : (b : Bool) → eqb (get_or indices k 0) i ≡ b
+        → ((seek indices i ks ≡ 0) × All (λ k. get_or indices k 0 ≡ i → ⊥) ks) ⊎ (P (seek indices i ks) × (get_or indices (seek indices i ks) 0 ≡ i))
+        → ((cond b k (seek indices i ks) ≡ 0) × All (λ k. get_or indices k 0 ≡ i → ⊥) (k ∷ ks)) ⊎ (P (cond b k (seek indices i ks)) × (get_or indices (cond b k (seek indices i ks)) 0 ≡ i))
+    go true e ih = inr (p, eqb-true _ _ e)
+    go false e (inl (z, a)) = inl (z, (eqb-false _ _ e, a))
+    go false e (inr w) = inr w
+
+-- A node that counts as a child of p is p with one step more.
+pub child-step : (p q : Path) → isChild p q ≡ true → (s : Step) × (q ≡ p ▹ s)
+child-step p root e = let z : ◌≡◌ {A = ℕ} 0 1 = cc in absurd (omega arith)
+child-step p (q ▹ s) e = (s, ap (λ o. o ▹ s) (same_true q p e))
+
+-- Each record among a node's children is some child's.
+pub children-homes : (ns : List Path) (p : Path) → All (λ k. (s : Step) × Home ns k (p ▹ s)) (places (isChild p) 1 ns)
+children-homes ns p = places-all (λ k. (s : Step) × Home ns k (p ▹ s)) (isChild p) 1 ns root
+    (λ j l e. let (s, q) = child-step p (get_or ns j root) e in (s, (omega arith, omega arith, ap (λ k. node_of ns k) (one-add j) ∙ q)))

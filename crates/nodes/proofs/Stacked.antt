@@ -1,0 +1,55 @@
+-- The open places as a list, and what a write or a place more or less does to it.
+use Rattle.std.proofs.Common.{◌≡◌, ℕ, zero, suc, ◌+◌, ◌-◌, ◌<◌, ◌≤◌, ◌≢◌, List, ◌∷◌, length, get_or, set, Option, unwrap_or, sym, refl, ap, ◌∙◌, add-one, arith, get_or-set_other, get_or-set_same}
+use Rattle.std.specs.declared.option.Option.TheVariants as options
+use Rattle.nodes.specs.declared.places.Place.{Place}
+use Rattle.nodes.specs.declared.places.State.{State}
+use Rattle.nodes.specs.declared.places.State.TheVariants.{Root, Items, Keys, Vals, Fields, Lone, One, Closing}
+use Rattle.nodes.specs.Stack.{waiting, levels, settled, rest, replaced}
+
+-- the root's place gives way to the one that its value opens: as std has it
+pub replaced-or : (o : Option State) → unwrap_or o Closing ≡ replaced o
+replaced-or options.None = refl
+replaced-or (options.Some s) = refl
+
+-- a write past the open places
+pub levels_set : (ps : List Place) (d i : ℕ) (x : Place) → d ≤ i → levels (set ps i x) d ≡ levels ps d
+levels_set ps zero i x h = refl
+levels_set ps (suc d) i x h =
+    let ne : d ≢ i = omega arith in
+    ap (λ p. p.state ∷ levels (set ps i x) d) (get_or-set_other ps i d x (waiting Root) ne) ∙ ap (λ ss. (get_or ps d (waiting Root)).state ∷ ss) (levels_set ps d i x (omega arith))
+
+-- a place more
+pub levels_push : (ps : List Place) (d : ℕ) (s : State) → d < length ps → levels (set ps d (waiting s)) (d + 1) ≡ s ∷ levels ps d
+levels_push ps d s h =
+    ap (levels (set ps d (waiting s))) (add-one d)
+    ∙ ap (λ p. p.state ∷ levels (set ps d (waiting s)) d) (get_or-set_same ps d (waiting s) (waiting Root) h)
+    ∙ ap (λ ss. s ∷ ss) (levels_set ps d d (waiting s) (omega arith))
+
+-- the innermost place, and the rest
+pub levels_top : (ps : List Place) (d : ℕ) → 0 < d → levels ps d ≡ (get_or ps (d - 1) (waiting Root)).state ∷ levels ps (d - 1)
+levels_top ps d h = let e : d ≡ suc (d - 1) = omega arith in ap (levels ps) e
+
+-- another state of the innermost place
+pub levels-turn : (ps : List Place) (d : ℕ) (s : State) → 0 < d → d ≤ length ps → levels (set ps (d - 1) (waiting s)) d ≡ s ∷ rest (levels ps d)
+levels-turn ps d s h l =
+    let e : d ≡ (d - 1) + 1 = omega arith in
+    ap (levels (set ps (d - 1) (waiting s))) e ∙ levels_push ps (d - 1) s (omega arith) ∙ ap (λ ss. s ∷ ss) (sym (ap rest (levels_top ps d h)))
+
+-- a place that does not close stays
+pub stays : (s : State) (ss : List State) → s ≢ Closing → settled (s ∷ ss) ≡ s ∷ ss
+stays Root ss ne = refl
+stays (Items r n) ss ne = refl
+stays (Keys r n) ss ne = refl
+stays (Vals r n) ss ne = refl
+stays (Fields r n) ss ne = refl
+stays (Lone r n) ss ne = refl
+stays (One r) ss ne = refl
+stays Closing ss ne = absurd (ne refl)
+
+-- a place that closes is gone once the places are settled
+pub settled-more : (ps : List Place) (d : ℕ) → 0 < d → (get_or ps (d - 1) (waiting Root)).state ≡ Closing → settled (levels ps d) ≡ settled (levels ps (d - 1))
+settled-more ps d h e = ap settled (levels_top ps d h) ∙ ap (λ s. settled (s ∷ levels ps (d - 1))) e
+
+-- settled places: the innermost does not close
+pub settled-done : (ps : List Place) (d : ℕ) → 0 < d → (get_or ps (d - 1) (waiting Root)).state ≢ Closing → settled (levels ps d) ≡ levels ps d
+settled-done ps d h ne = ap settled (levels_top ps d h) ∙ stays (get_or ps (d - 1) (waiting Root)).state (levels ps (d - 1)) ne ∙ sym (levels_top ps d h)

@@ -1,0 +1,31 @@
+-- What a place waits for, by its state.
+use Rattle.std.specs.Prelude.{ℕ, ◌+◌, ◌-◌, Bool, false, cond, ◌==◌}
+use Rattle.nodes.specs.declared.places.State.{State}
+use Rattle.nodes.specs.declared.places.State.TheVariants.{Root, Items, Keys, Vals, Fields, Lone, One, Closing}
+
+-- the record at which the next value stands, and the state once that is counted
+pub data Ahead : Type 0 where
+  nowhere : Ahead
+  there : ℕ → State → Ahead
+
+-- where the next value stands; the document's own stands at record 1
+abbrev pub ahead : State → Ahead
+ahead Root = there 1 Closing
+ahead (Items r n) = cond (n == 0) nowhere (there r (Items r (n - 1)))
+ahead (Keys r n) = cond (n == 0) nowhere (there r (Vals r (n - 1)))
+ahead (Vals r n) = there (r + 1) (Keys r n)
+ahead (Fields r n) = cond (n == 0) nowhere (there r (Fields (r + 1) (n - 1)))
+ahead (Lone r n) = cond (n == 0) nowhere (there r (Lone r (n - 1)))
+ahead (One r) = there r Closing
+ahead Closing = nowhere
+
+-- whether `end` may close the place
+abbrev pub isFull : State → Bool
+isFull Root = false
+isFull (Items r n) = n == 0
+isFull (Keys r n) = n == 0
+isFull (Vals r n) = false
+isFull (Fields r n) = n == 0
+isFull (Lone r n) = n == 0
+isFull (One r) = false
+isFull Closing = false
