@@ -1,2 +1,2 @@
 pub mod Backwards
-pub mod Reversal
+pub mod Laws

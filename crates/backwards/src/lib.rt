@@ -1,11 +1,12 @@
 //! A kind of one's own: a layer that passes the values on in reverse order.
 //!
 //! It is what a user of the column interface writes: the meaning, the two calls, and the proof of the laws.
+#![tactic(auto)]
 
 ghost use Rattle.backwards.specs.Backwards.{backwards};
-ghost use mathlib.Core.List;
-ghost use Rattle.column.specs.Layers.{layer-lawful};
-ghost use Rattle.backwards.specs.Reversal.{reverse-undone};
+ghost use Rattle.std.specs.Prelude.{reverse};
+ghost use Rattle.column.specs.Laws.Layer.{layer-lawful};
+ghost use Rattle.backwards.specs.Laws.{reverse-undone};
 
 use column::fault::Fault;
 use column::interface::Column;
@@ -18,9 +19,9 @@ pub struct Backwards<C> {
 }
 
 impl<C: Column> Column for Backwards<C> {
-    ghost meaning = { λ layer. backwards (C.Column.meaning layer.lower) };
+    ghost meaning = { λ layer. backwards (C.meaning layer.lower) };
 
-    ghost lawful = { λ kind. layer-lawful (λ _. List.reverse) (λ _. List.reverse) reverse-undone (C.Column.meaning kind.lower) (C.Column.lawful kind.lower) };
+    ghost lawful = { λ kind. layer-lawful (λ _. reverse) (λ _. reverse) reverse-undone (C.meaning kind.lower) (C.lawful kind.lower) };
 
     fn write(
         &self,

@@ -1,4 +1,5 @@
 //! Asks the crates `column` and `utf8` the questions of the data files, and compares their answers with the stored ones.
+#![tactic(auto)]
 
 mod answer;
 mod digest;
@@ -10,7 +11,7 @@ mod words;
 
 use crate::question::Question;
 use crate::tally::Tally;
-use anyhow::{Context, anyhow};
+use anyhow::{Context, bail};
 use std::alloc::Global;
 use std::fs;
 
@@ -18,10 +19,10 @@ use std::fs;
 const SHOWN: u64 = 5;
 
 /// What the crates answer to a line's question, where the line has another answer.
-fn difference(heap: Global, line: &str) -> anyhow::Result<Option<String>> {
+fn difference(alloc: Global, line: &str) -> anyhow::Result<Option<String>> {
     let (question, stored) = line.split_once(" = ").context("a line without an answer")?;
-    let answer = Question::parse(heap, question)?.answer(heap)?;
-    let text = answer.to_string(heap)?;
+    let answer = Question::parse(alloc, question)?.answer(alloc)?;
+    let text = answer.to_string(alloc)?;
     if text.as_str() == stored {
         return Ok(None);
     }
@@ -50,23 +51,19 @@ fn run_group(rt: &HostRuntime, group: &str) -> anyhow::Result<Tally> {
 fn run_file(rt: &HostRuntime, name: &str, total: &mut Tally) -> anyhow::Result<()> {
     let text = fs::read_to_string(rt, name)?;
     println!(rt; "{name}")?;
-    for group in text.as_str().split("\ngroup ").skip(1) {
+    for group in text.split("\ngroup ").skip(1) {
         total.add(run_group(rt, group)?);
     }
     Ok(())
 }
 
-fn run(rt: &HostRuntime) -> anyhow::Result<()> {
+fn main(rt: HostRuntime) -> anyhow::Result<()> {
     let mut total = Tally::new();
-    run_file(rt, "cases.txt", &mut total)?;
-    run_file(rt, "digests.txt", &mut total)?;
+    run_file(&rt, "cases.txt", &mut total)?;
+    run_file(&rt, "digests.txt", &mut total)?;
     println!(rt; "total: {total}")?;
     if total.differed > 0 {
-        return Err(anyhow!("answers differ"));
+        bail!("answers differ");
     }
     Ok(())
-}
-
-fn main(rt: HostRuntime) -> anyhow::Result<()> {
-    run(&rt)
 }

@@ -61,23 +61,23 @@ pub enum Question {
 
 impl Question {
     /// The question that a line asks.
-    pub(crate) fn parse(heap: Global, line: &str) -> anyhow::Result<Question> {
+    pub(crate) fn parse(alloc: Global, line: &str) -> anyhow::Result<Question> {
         let mut words = Words::of(line);
         match words.word()? {
             "write" => Ok(Question::Write {
                 call: Call::parse(&mut words)?,
-                values: words.values(heap)?,
+                values: words.values(alloc)?,
                 room: words.size()?,
                 place: words.size()?,
             }),
             "read" => Ok(Question::Read {
                 call: Call::parse(&mut words)?,
                 count: words.size()?,
-                input: words.bytes(heap)?,
+                input: words.bytes(alloc)?,
                 place: words.size()?,
             }),
             "text" => Ok(Question::Text {
-                input: words.bytes(heap)?,
+                input: words.bytes(alloc)?,
             }),
             "reads" => Ok(Question::Reads {
                 kind: words.kind()?,
@@ -91,7 +91,7 @@ impl Question {
     }
 
     /// What the crates answer.
-    pub(crate) fn answer(self, heap: Global) -> Result<Answer, AllocError>
+    pub(crate) fn answer(self, alloc: Global) -> Result<Answer, AllocError>
         ensures { IfOk result (λ a. Answered self a) }
     {
         match self {
@@ -100,13 +100,13 @@ impl Question {
                 mut values,
                 room,
                 place,
-            } => Ok(call.write(&mut values, vec![in heap; FILL; room]?, place)),
+            } => Ok(call.write(&mut values, vec![in alloc; FILL; room]?, place)),
             Question::Read {
                 call,
                 count,
                 input,
                 place,
-            } => Ok(call.read(vec![in heap; 0; count]?, &input, place)),
+            } => Ok(call.read(vec![in alloc; 0; count]?, &input, place)),
             Question::Text { input } => Ok(Answer::Judged {
                 formed: utf8::well_formed(&input).is_ok(),
             }),
@@ -115,7 +115,7 @@ impl Question {
                 width,
                 count,
                 set,
-            } => reads(heap, kind, width, count, set),
+            } => reads(alloc, kind, width, count, set),
             Question::Texts { set } => Ok(texts(set)),
         }
     }
@@ -194,7 +194,7 @@ impl Taker for TextDigest {
 
 /// The digest of a read of so many values from each string of a set.
 fn reads(
-    heap: Global,
+    alloc: Global,
     kind: Kind,
     width: u32,
     count: usize,
@@ -205,7 +205,7 @@ fn reads(
     let mut taker = ReadDigest {
         kind,
         width,
-        values: vec![in heap; 0; count]?,
+        values: vec![in alloc; 0; count]?,
         digest: Digest::new(),
     };
     set.each(&mut taker);

@@ -57,9 +57,9 @@ impl<'a> Words<'a> {
     }
 
     /// Values with commas, or '-' for none.
-    pub(crate) fn values(&mut self, heap: Global) -> anyhow::Result<Vec<u64>> {
+    pub(crate) fn values(&mut self, alloc: Global) -> anyhow::Result<Vec<u64>> {
         let word = self.word()?;
-        let mut values = Vec::new(heap);
+        let mut values = Vec::new(alloc);
         if word != "-" {
             for value in word.split(',') {
                 values.push(value.parse::<u64>()?)?;
@@ -69,9 +69,9 @@ impl<'a> Words<'a> {
     }
 
     /// Bytes of two digits each, or '-' for none.
-    pub(crate) fn bytes(&mut self, heap: Global) -> anyhow::Result<Vec<u8>> {
+    pub(crate) fn bytes(&mut self, alloc: Global) -> anyhow::Result<Vec<u8>> {
         let word = self.word()?;
-        let mut bytes = Vec::new(heap);
+        let mut bytes = Vec::new(alloc);
         if word != "-" {
             for pair in word.as_bytes().chunks(2) {
                 bytes.push(byte(pair)?)?;

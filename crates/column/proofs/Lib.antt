@@ -1,1 +1,10 @@
+pub mod Choice
+pub mod Widths
+pub mod Overlaid
+pub mod Numbers
+pub mod OneByOne
+pub mod LowFirst
+pub mod Leb128
+pub mod Differences
+pub mod Layers
 pub mod ThereAndBack

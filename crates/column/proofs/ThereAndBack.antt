@@ -6,9 +6,9 @@ use Rattle.column.specs.Widths.{listed, below}
 use Rattle.column.specs.Parsed.{got}
 use Rattle.column.specs.Meaning.{Meaning, Lawful}
 use Rattle.column.specs.Interface.{overlaid, writing, reading}
-use Rattle.column.specs.Choice.{chose-both}
-use Rattle.column.specs.WidthsLemmas.{below-decides}
-use Rattle.column.specs.Overlaid.{length-overlaid}
+use Rattle.column.proofs.Choice.{chose-both}
+use Rattle.column.proofs.Widths.{below-decides}
+use Rattle.column.proofs.Overlaid.{length-overlaid}
 
 pub read_again : (kind : Meaning) → Lawful kind → (layer w : ℕ) (vs old new : List ℕ) (place n : ℕ) → Ok n ≡ writing kind layer w vs (length old) place → new ≡ overlaid place (kind.image w vs) old
     → reading kind w (length vs) new place ≡ got vs n

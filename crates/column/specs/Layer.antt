@@ -25,5 +25,5 @@ pub record Undone (there back : ℕ → List ℕ → List ℕ) : Type 0 where
   -- changing back undoes the change
   pub undoes : (w : ℕ) (vs : List ℕ) → Below w vs → back w (there w vs) ≡ vs
   -- a list that is changed back is as long, and fits the width
-  pub back-as-long : (w : ℕ) (ds : List ℕ) → length (back w ds) ≡ length ds
+  pub back_as_long : (w : ℕ) (ds : List ℕ) → length (back w ds) ≡ length ds
   pub back_fits : (w : ℕ) (ds : List ℕ) → Below w ds → Below w (back w ds)

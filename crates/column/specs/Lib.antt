@@ -8,12 +8,4 @@ pub mod Flat
 pub mod Short
 pub mod Layer
 pub mod Steps
-pub mod LowFirst
-pub mod Choice
-pub mod WidthsLemmas
-pub mod Numbers
-pub mod Overlaid
-pub mod OneByOne
-pub mod Leb128
-pub mod Differences
-pub mod Layers
+pub mod Laws

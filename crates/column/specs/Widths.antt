@@ -1,6 +1,6 @@
 -- Widths, and the values that have a place in a column of a width.
 use Rattle.std.specs.Prelude.{ℕ, ◌^◌, ◌<◌, Bool, true, ◌&&◌, ◌||◌, List, [], ◌∷◌, ◌==◌, nat_lt}
-use Rattle.std.specs.List.{AllByRecursion as All}
+use Rattle.std.specs.List.{AllByRecursion}
 
 -- the widths that a column can have, in bits
 abbrev pub listed : ℕ → Bool
@@ -8,7 +8,7 @@ listed w = w == 1 || (w == 8 || (w == 16 || (w == 32 || w == 64)))
 
 -- each value fits the width
 abbrev pub Below : ℕ → List ℕ → Type 0
-Below w vs = All (λ v. v < 2 ^ w) vs
+Below w vs = AllByRecursion (λ v. v < 2 ^ w) vs
 
 -- the same, as a test
 abbrev pub below : ℕ → List ℕ → Bool
@@ -17,4 +17,4 @@ below w (v ∷ vs) = nat_lt v (2 ^ w) && below w vs
 
 -- a list of bytes
 abbrev pub Bytes : List ℕ → Type 0
-Bytes bs = All (λ b. b < 256) bs
+Bytes bs = AllByRecursion (λ b. b < 256) bs

@@ -53,8 +53,8 @@ pub(crate) fn write_each<F: Code>(
     output: &mut [u8],
     place: usize,
 ) -> Result<usize, Fault>
-    ensures answer { result ≡ writing (coded (F.Code.code form.now) (F.Code.one form.now)) layer width values.now (length output.old) place }
-    ensures bytes { Written result place ((coded (F.Code.code form.now) (F.Code.one form.now)).image width values.now) output.old output.new }
+    ensures answer { result ≡ writing (coded (F.code form.now) (F.one form.now)) layer width values.now (length output.old) place }
+    ensures bytes { Written result place ((coded (F.code form.now) (F.one form.now)).image width values.now) output.old output.new }
 {
     admitted(layer, width, values)?;
     if place > output.len() {
@@ -79,8 +79,8 @@ pub(crate) fn read_each<F: Code>(
     input: &[u8],
     place: usize,
 ) -> Result<usize, Fault>
-    ensures answer { result ≡ told layer (reading (coded (F.Code.code form.now) (F.Code.one form.now)) width (length values.old) input.now place) }
-    ensures values { OnOk result (values.new ≡ values_of (reading (coded (F.Code.code form.now) (F.Code.one form.now)) width (length values.old) input.now place)) }
+    ensures answer { result ≡ told layer (reading (coded (F.code form.now) (F.one form.now)) width (length values.old) input.now place) }
+    ensures values { OnOk result (values.new ≡ values_of (reading (coded (F.code form.now) (F.one form.now)) width (length values.old) input.now place)) }
 {
     greatest(layer, width)?;
     if place > input.len() {

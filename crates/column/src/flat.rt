@@ -3,8 +3,8 @@
 ghost use Rattle.std.specs.Prelude.{◌≡◌};
 ghost use Rattle.column.specs.Digits.{low};
 ghost use Rattle.column.specs.Flat.{size, flatOne, flat};
-ghost use Rattle.column.specs.LowFirst.{flat-coding};
-ghost use Rattle.column.specs.OneByOne.{coded-lawful};
+ghost use Rattle.column.specs.Laws.Flat.{flat-coding};
+ghost use Rattle.column.specs.Laws.Coded.{coded-lawful};
 
 use crate::coded::{Code, Taken, read_each, write_each};
 use crate::digits::{number_at, put_low};

@@ -1,4 +1,5 @@
 //! Columns: lists of numbers of one width, as bytes. One interface, its laws, and three kinds.
+#![tactic(auto)]
 
 mod coded;
 mod digits;

@@ -3,8 +3,8 @@
 ghost use Rattle.std.specs.Prelude.{◌≡◌, ◌≤◌, length, drop};
 ghost use Rattle.column.specs.Parsed.{told};
 ghost use Rattle.column.specs.Short.{Fewest, leb128, front, shortOne, shortKind};
-ghost use Rattle.column.specs.Leb128.{short-coding};
-ghost use Rattle.column.specs.OneByOne.{coded-lawful};
+ghost use Rattle.column.specs.Laws.Short.{short-coding};
+ghost use Rattle.column.specs.Laws.Coded.{coded-lawful};
 
 use crate::coded::{Code, Taken, read_each, write_each};
 use crate::digits::number_at;

@@ -3,8 +3,8 @@
 ghost use Rattle.std.specs.Prelude.{◌≡◌, ◌-◌, ◌^◌, ◌≤◌};
 ghost use Rattle.column.specs.Widths.{Below};
 ghost use Rattle.column.specs.Steps.{differences, sums, steps};
-ghost use Rattle.column.specs.Differences.{steps-undone};
-ghost use Rattle.column.specs.Layers.{layer-lawful};
+ghost use Rattle.column.specs.Laws.Steps.{steps-undone};
+ghost use Rattle.column.specs.Laws.Layer.{layer-lawful};
 
 use crate::fault::Fault;
 use crate::interface::Column;
@@ -17,9 +17,9 @@ pub struct Steps<C> {
 }
 
 impl<C: Column> Column for Steps<C> {
-    ghost meaning = { λ layer. steps (C.Column.meaning layer.lower) };
+    ghost meaning = { λ layer. steps (C.meaning layer.lower) };
 
-    ghost lawful = { λ kind. layer-lawful (λ w. differences w 0) (λ w. sums w 0) steps-undone (C.Column.meaning kind.lower) (C.Column.lawful kind.lower) };
+    ghost lawful = { λ kind. layer-lawful (λ w. differences w 0) (λ w. sums w 0) steps-undone (C.meaning kind.lower) (C.lawful kind.lower) };
 
     fn write(
         &self,

@@ -16,8 +16,8 @@ pub fn round_trip<C: Column>(
     output: &mut [u8],
     place: usize,
 ) -> Result<usize, Fault>
-    ensures answer { result ≡ writing (C.Column.meaning kind.now) 0 width values.old (length output.old) place }
-    ensures bytes { Written result place ((C.Column.meaning kind.now).image width values.old) output.old output.new }
+    ensures answer { result ≡ writing (C.meaning kind.now) 0 width values.old (length output.old) place }
+    ensures bytes { Written result place ((C.meaning kind.now).image width values.old) output.old output.new }
     ensures values { OnOk result (values.new ≡ values.old) }
 {
     kind.write(0, width, values, output, place)?;

@@ -6,8 +6,8 @@ use Rattle.column.specs.Widths.{listed, below}
 use Rattle.column.specs.Parsed.{got, values_of}
 use Rattle.column.specs.Meaning.{Meaning, Lawful}
 use Rattle.column.specs.Interface.{overlaid, writing, reading}
-use Rattle.column.specs.Choice.{chose-both}
-use Rattle.column.specs.WidthsLemmas.{below-decides}
+use Rattle.column.proofs.Choice.{chose-both}
+use Rattle.column.proofs.Widths.{below-decides}
 
 module _ (kind : Meaning) (w : ℕ) where
   -- a vector of len bytes into whose front the image of a copy of these values was written, and that is then cut after it

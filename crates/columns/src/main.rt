@@ -1,4 +1,5 @@
 //! Packs the columns of a card table under each kind, unpacks them, and shows what is refused.
+#![tactic(auto)]
 
 ghost use Rattle.std.specs.Prelude.{◌≡◌, true};
 ghost use Rattle.columns.specs.Examples.{examples};
@@ -44,7 +45,7 @@ fn main(rt: HostRuntime) -> io::Result<()> {
     let mut text = Vec::new(rt.alloc());
     let mut stdin = rt.stdin();
     stdin.read_to_end(&mut text)?;
-    show_table(&rt, text.as_slice())?;
+    show_table(&rt, &text)?;
     show_refusals(&rt)?;
     let hold = examples_hold();
     println!(rt; "the worked examples hold: {hold}")?;

@@ -45,40 +45,40 @@ impl fmt::Display for PackError {
 
 /// The values' bytes under a kind, in a buffer of this room.
 pub(crate) fn pack<C: Column>(
-    heap: Global,
+    alloc: Global,
     kind: &C,
     width: u32,
     values: &[u64],
     room: usize,
 ) -> Result<Vec<u8>, PackError>
     ensures fits { OnOk result ((listed width && below width values.now) ≡ true) }
-    ensures bytes { IfOk result (λ bytes. bytes.items ≡ (C.Column.meaning kind.now).image width values.now) }
+    ensures bytes { IfOk result (λ bytes. bytes.items ≡ (C.meaning kind.now).image width values.now) }
 {
-    let mut list = Vec::from_slice(heap, values)?;
-    let mut output = vec![in heap; 0u8; room]?;
-    let used = kind.write(0, width, list.as_mut_slice(), output.as_mut_slice(), 0)?;
+    let mut list = Vec::from_slice(alloc, values)?;
+    let mut output = vec![in alloc; 0u8; room]?;
+    let used = kind.write(0, width, &mut list, &mut output, 0)?;
     output.truncate(used);
     Ok(output)
 }
 
 /// The first values of the bytes under a kind.
 pub(crate) fn unpack<C: Column>(
-    heap: Global,
+    alloc: Global,
     kind: &C,
     width: u32,
     count: usize,
     bytes: &[u8],
 ) -> Result<Vec<u64>, PackError>
-    ensures { IfOk result (λ values. values.items ≡ values_of (reading (C.Column.meaning kind.now) width count bytes.now 0)) }
+    ensures { IfOk result (λ values. values.items ≡ values_of (reading (C.meaning kind.now) width count bytes.now 0)) }
 {
-    let mut values = vec![in heap; 0u64; count]?;
-    kind.read(0, width, values.as_mut_slice(), bytes, 0)?;
+    let mut values = vec![in alloc; 0u64; count]?;
+    kind.read(0, width, &mut values, bytes, 0)?;
     Ok(values)
 }
 
 /// Packs the values and reads them back in place, and answers the number of their bytes.
 pub(crate) fn there_and_back<C: Column>(
-    heap: Global,
+    alloc: Global,
     kind: &C,
     width: u32,
     values: &mut [u64],
@@ -86,6 +86,6 @@ pub(crate) fn there_and_back<C: Column>(
 ) -> Result<usize, PackError>
     ensures { OnOk result (values.new ≡ values.old) }
 {
-    let mut output = vec![in heap; 0u8; room]?;
-    Ok(round_trip(kind, width, values, output.as_mut_slice(), 0)?)
+    let mut output = vec![in alloc; 0u8; room]?;
+    Ok(round_trip(kind, width, values, &mut output, 0)?)
 }

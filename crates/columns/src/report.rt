@@ -25,8 +25,8 @@ fn show_kind<C: Column>(
     match Trial::run(rt.alloc(), kind, column) {
         Ok(trial) => {
             let size = trial.bytes.len();
-            let bytes = Hex(trial.bytes.as_slice());
-            let values = Spaced(trial.values.as_slice());
+            let bytes = Hex(&trial.bytes);
+            let values = Spaced(&trial.values);
             let word = verdict(trial.values == column.values);
             println!(rt; "  {title}, {size} bytes: {bytes}")?;
             println!(rt; "    back: {values}, {word}")
@@ -37,21 +37,15 @@ fn show_kind<C: Column>(
 
 /// Takes a column there and back in place, through two layers of steps.
 fn show_round_trip(rt: &HostRuntime, column: &TableColumn) -> io::Result<()> {
-    let heap = rt.alloc();
+    let alloc = rt.alloc();
     let kind = Steps {
         lower: Steps { lower: Flat },
     };
-    let mut values = Vec::from_slice(heap, column.values.as_slice())?;
-    match there_and_back(
-        heap,
-        &kind,
-        column.width,
-        values.as_mut_slice(),
-        column.room(),
-    ) {
+    let mut values = Vec::from_slice(alloc, &column.values)?;
+    match there_and_back(alloc, &kind, column.width, &mut values, column.room()) {
         Ok(size) => {
             let word = verdict(values == column.values);
-            let values = Spaced(values.as_slice());
+            let values = Spaced(&values);
             println!(rt; "  through two layers of steps and back, {size} bytes: {values}, {word}")
         }
         Err(error) => println!(rt; "  through two layers of steps and back: {error}"),
@@ -60,9 +54,9 @@ fn show_round_trip(rt: &HostRuntime, column: &TableColumn) -> io::Result<()> {
 
 /// Prints a column under each kind.
 fn show_column(rt: &HostRuntime, column: &TableColumn) -> io::Result<()> {
-    let name = column.name.as_str();
+    let name = &column.name;
     let width = column.width;
-    let values = Spaced(column.values.as_slice());
+    let values = Spaced(&column.values);
     println!(rt; "{name}, width {width}: {values}")?;
     show_kind(rt, "flat", &Flat, column)?;
     show_kind(rt, "short", &Short, column)?;

@@ -83,10 +83,10 @@ pub(crate) fn find(text: &[u8], byte: u8) -> usize
 }
 
 /// The numbers of a text, at most `MOST` of them.
-pub(crate) fn numbers(heap: Global, text: &str) -> Result<Vec<u64>, LineError>
+pub(crate) fn numbers(alloc: Global, text: &str) -> Result<Vec<u64>, LineError>
     ensures { IfOk result (λ values. vec_len values ≤ 64) }
 {
-    let mut values = Vec::new(heap);
+    let mut values = Vec::new(alloc);
     for word in text.split_whitespace() {
         if values.len() >= MOST {
             return Err(LineError::TooMany);
@@ -98,13 +98,13 @@ pub(crate) fn numbers(heap: Global, text: &str) -> Result<Vec<u64>, LineError>
 
 impl TableColumn {
     /// Reads `NAME WIDTH: NUMBER NUMBER ..`.
-    pub(crate) fn parse(heap: Global, line: &str) -> Result<TableColumn, LineError> {
+    pub(crate) fn parse(alloc: Global, line: &str) -> Result<TableColumn, LineError> {
         let (head, body) = line.split_once(':').ok_or(LineError::NoColon)?;
         let (name, width) = head.split_once(' ').ok_or(LineError::NoWidth)?;
         Ok(TableColumn {
-            name: String::from_str(heap, name)?,
+            name: String::from_str(alloc, name)?,
             width: width.parse::<u32>()?,
-            values: numbers(heap, body)?,
+            values: numbers(alloc, body)?,
         })
     }
 
@@ -118,12 +118,12 @@ impl TableColumn {
 
 impl Entry<'_> {
     /// Reads a line: `seat: NAME`, or a column.
-    pub(crate) fn parse(heap: Global, line: &[u8]) -> Result<Entry<'_>, LineError> {
+    pub(crate) fn parse(alloc: Global, line: &[u8]) -> Result<Entry<'_>, LineError> {
         if let Some(name) = line.strip_prefix(b"seat: ") {
             return Ok(Entry::Seat(name));
         }
         match std::str::from_utf8(line) {
-            Ok(text) => Ok(Entry::Column(TableColumn::parse(heap, text)?)),
+            Ok(text) => Ok(Entry::Column(TableColumn::parse(alloc, text)?)),
             Err(_) => Err(LineError::NotText),
         }
     }

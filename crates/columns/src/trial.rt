@@ -17,16 +17,15 @@ pub struct Trial {
 impl Trial {
     /// What is read is what was packed, whatever the kind.
     pub(crate) fn run<C: Column>(
-        heap: Global,
+        alloc: Global,
         kind: &C,
         column: &TableColumn,
     ) -> Result<Trial, PackError>
-        ensures bytes { IfOk result (λ trial. trial.bytes.items ≡ (C.Column.meaning kind.now).image column.now.width column.now.values.items) }
+        ensures bytes { IfOk result (λ trial. trial.bytes.items ≡ (C.meaning kind.now).image column.now.width column.now.values.items) }
         ensures values { IfOk result (λ trial. trial.values.items ≡ column.now.values.items) }
     {
-        let values = column.values.as_slice();
-        let bytes = pack(heap, kind, column.width, values, column.room())?;
-        let values = unpack(heap, kind, column.width, values.len(), bytes.as_slice())?;
+        let bytes = pack(alloc, kind, column.width, &column.values, column.room())?;
+        let values = unpack(alloc, kind, column.width, column.values.len(), &bytes)?;
         Ok(Trial { bytes, values })
     }
 }

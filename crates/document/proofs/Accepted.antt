@@ -2,7 +2,7 @@
 use Rattle.std.proofs.Common.{[], ap, ◌∙◌, append-nil}
 use Rattle.document.specs.Bytes.{bytes}
 use Rattle.document.specs.Replay.{finish}
-use Rattle.document.specs.Theorems.{Conservation, Replays-within, Replays, Faithful}
+use Rattle.document.specs.Theorems.{Conservation, ReplaysWithin, Replays, Faithful}
 use Rattle.document.proofs.Accepting.{accepted-sane}
 use Rattle.document.proofs.Count.{counted, counted-root}
 use Rattle.document.proofs.Heard.{heard-within}
@@ -11,7 +11,7 @@ use Rattle.document.proofs.Faith.{apart-within}
 pub conservation : Conservation
 conservation sizes cs a d = let s = (accepted-sane sizes cs a d).complete in (counted-root cs s, counted cs s)
 
-pub replays-within : Replays-within
+pub replays-within : ReplaysWithin
 replays-within col law sizes cs a d = heard-within col law sizes cs (accepted-sane sizes cs a d)
 
 pub replays : Replays

@@ -1,6 +1,6 @@
 -- An accepted list of calls is sane: each verdict takes its call, and keeps every node sound and the tables within their sizes.
 use Rattle.std.proofs.Common.{◌≡◌, ℕ, zero, suc, ◌+◌, ◌-◌, ◌<◌, ◌≤◌, Bool, true, false, cond, eqb, leb, ◌⊎◌, List, [], ◌∷◌, ◌++◌, length, get_or, Ok, Err, Result, sym, refl, ap, ◌∙◌, subst, inl, inr, arith, lit<}
-use Rattle.std.specs.List.{AllByRecursion as All}
+use Rattle.std.specs.List.{AllByRecursion}
 use Rattle.std.proofs.lemmas.List.{append-nil, append_assoc, get_or_past}
 use Rattle.std.proofs.ByRecursion.{All-append, All-weaker}
 use Rattle.std.proofs.lemmas.Bool.{or_parts, not-false, eqb-true, ltb-false, leb-false, cond_both}
@@ -133,27 +133,27 @@ same_kind u v us e = sym (kind-number-injective (kind u) (kind v) (eqb-true (kin
 -- ---- the values at one node
 
 -- a test that holds of none of the entries holds of no value at a node, as an entry there
-none-at : (test : Entry → Bool) (q : Path) (es : List Entry) → any_of test es ≡ false → All (λ v. test (entry q v) ≡ false) (at q es)
+none-at : (test : Entry → Bool) (q : Path) (es : List Entry) → any_of test es ≡ false → AllByRecursion (λ v. test (entry q v) ≡ false) (at q es)
 none-at test q [] h = tt
 none-at test q (e ∷ es) h =
     let k = or_parts (test e) (any_of test es) h in
-    cond_both (same e.node q) (e.said ∷ at q es) (at q es) (All (λ v. test (entry q v) ≡ false))
+    cond_both (same e.node q) (e.said ∷ at q es) (at q es) (AllByRecursion (λ v. test (entry q v) ≡ false))
     (λ is. (subst (λ (p : Path). test (entry p e.said) ≡ false) (same_true e.node q is) k.0, none-at test q es k.1))
     (λ _. none-at test q es k.1)
 
 -- more values of one kind, none of them strange
-one-kind-append : (us vs : List Value) → OneKind us → OneKind vs → All (λ v. strange us v ≡ false) vs → OneKind (us ++ vs)
+one-kind-append : (us vs : List Value) → OneKind us → OneKind vs → AllByRecursion (λ v. strange us v ≡ false) vs → OneKind (us ++ vs)
 one-kind-append [] vs h k s = k
 one-kind-append (u ∷ us) vs h k s = All-append (λ v. kind v ≡ kind u) us vs h (All-weaker (λ v. strange (u ∷ us) v ≡ false) (λ v. kind v ≡ kind u) (λ v. same_kind u v us) vs s)
 
 -- values that are short of the limit as they were, or were found so with any that is new
-short-append : (us vs ws : List Value) → ws ≡ us ++ vs → total extent us < limit → All (λ v. leb limit (total extent ws) ≡ false) vs → total extent ws < limit
+short-append : (us vs ws : List Value) → ws ≡ us ++ vs → total extent us < limit → AllByRecursion (λ v. leb limit (total extent ws) ≡ false) vs → total extent ws < limit
 short-append us [] ws is h s = rw (is, append-nil) h
 short-append us (v ∷ vs) ws is h s = leb-false limit (total extent ws) s.0
 
 -- values of one kind, each of which fits
 abbrev pub Fitting : List Value → Type 0
-Fitting vs = OneKind vs × All Fits vs
+Fitting vs = OneKind vs × AllByRecursion Fits vs
 
 -- entries that pass the tests keep a node sound
 sound-append : (ts es : List Entry) (q : Path) → Sound (at q ts) → Fitting (at q es) → any_of (clash ts) es ≡ false → any_of (tooLong (ts ++ es)) es ≡ false → Sound (at q (ts ++ es))

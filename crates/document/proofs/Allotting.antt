@@ -2,7 +2,7 @@
 use Rattle.std.proofs.Common.{◌≡◌, ℕ, zero, suc, ◌+◌, ◌*◌, ◌≤◌, Bool, true, false, cond, not, eqb, ltb, ◌≢◌, ◌⊎◌, List, [], ◌∷◌, ◌++◌, length, sym, refl, ap, ◌∙◌, subst, inl, inr, append_assoc, append-nil, add-mul, one-mul, zero-mul, arith, length-append}
 use Rattle.std.proofs.lemmas.Bool.{cases_eq, eq-eqb, ne_eqb}
 use Rattle.document.specs.Calls.{total, Cell, cell, Kind, SCALAR, TEXT, SEQ, MAP, ENUM, UNIT, TUPLE, Value, scalar, text, unit, none, some, variant, seq, map, tuple, kind, Call}
-use Rattle.std.specs.List.{AllByRecursion as All}
+use Rattle.std.specs.List.{AllByRecursion}
 use Rattle.document.specs.Nodes.{Path, root, ◌▹◌, Step, elem, key, value, field, alt, alike, same, field_of, demand, demands}
 use Rattle.document.specs.Entries.{Entry, entry, at}
 use Rattle.document.specs.Bytes.{keep, others, firsts}
@@ -386,7 +386,7 @@ brought-some r (alt j) ENUM c off h = omega (arith, ap (λ b. cond {A = ℕ} b 1
 brought-some r s (TUPLE n) c off h = omega (arith, h, fields-all r s n)
 
 -- .. so do values of the kind
-brought-demanded : (r : Path) (s : Step) (K : Kind) (vs : List Value) → ((i : ℕ) → alike s (alt i) ≡ false) → All (λ v. kind v ≡ K) vs → 1 ≤ total (demands s) vs → 1 ≤ times (r ▹ s) (brought r K)
+brought-demanded : (r : Path) (s : Step) (K : Kind) (vs : List Value) → ((i : ℕ) → alike s (alt i) ≡ false) → AllByRecursion (λ v. kind v ≡ K) vs → 1 ≤ total (demands s) vs → 1 ≤ times (r ▹ s) (brought r K)
 brought-demanded r s K [] off k h = omega (arith, h)
 brought-demanded r s K (v ∷ vs) off k h = go (demands s v) refl (brought-demanded r s K vs off k.1)
   where

@@ -11,7 +11,7 @@ use Rattle.document.specs.Fetch.{supply, fetched, fetch}
 use Rattle.document.specs.Nodes.{Path, root, ◌▹◌, Step, same, demand, demands}
 use Rattle.document.specs.Reader.{Store, opened, Node, fresh, ready, put, spread, found, look, code}
 use Rattle.document.specs.Tables.{cells, takes}
-use Rattle.std.specs.List.{AllByRecursion as All}
+use Rattle.std.specs.List.{AllByRecursion}
 use Rattle.document.proofs.Paths.{same_self, same_true, not-child, at-append}
 use Rattle.document.proofs.ReadBack.{fetch-back}
 
@@ -169,7 +169,7 @@ look-new col law ts ps es p v st after sound whole e n left r t =
     fetch-back col law st.columns (kind v) (v ∷ at p es) bs st.slots (refl, s.one-kind) s.fits s.short-of (rw w at t) in
     rw (n, le-leb (takes (kind v)) st.records r, i, w) (rw f refl)
 
-total-demands : (K : Kind) (s : Step) (vs : List Value) → All (λ u. kind u ≡ K) vs → total (demand K s) (each cell vs) ≡ total (demands s) vs
+total-demands : (K : Kind) (s : Step) (vs : List Value) → AllByRecursion (λ u. kind u ≡ K) vs → total (demand K s) (each cell vs) ≡ total (demands s) vs
 total-demands K s [] h = refl
 total-demands K s (v ∷ vs) h = ap₂ ◌+◌ (ap (λ J. demand J s (cell v)) (sym h.0)) (total-demands K s vs h.1)
 

@@ -1,6 +1,6 @@
 -- How what the tables hold grows with each entry.
 use Rattle.std.proofs.Common.{◌≡◌, ℕ, zero, suc, ◌+◌, ◌<◌, ◌≤◌, Bool, true, false, cond, ◌≢◌, List, [], ◌∷◌, ◌++◌, length, get_or, sym, refl, ap, ◌∙◌, subst, append_assoc, append-nil, arith, length-append}
-use Rattle.std.specs.List.{AllByRecursion as All}
+use Rattle.std.specs.List.{AllByRecursion}
 use Rattle.document.specs.Calls.{Kind, ENUM, Value, scalar, text, unit, none, some, variant, seq, map, tuple, kind, cell, str}
 use Rattle.document.specs.Nodes.{Path, root, ◌▹◌, Step, alt, same}
 use Rattle.document.specs.Entries.{Entry, at}
@@ -75,7 +75,7 @@ unbranched-of (map n) h = refl
 unbranched-of (tuple n) h = refl
 
 -- Values of one kind other than ENUM add no index to those that there are.
-pub had-kept : (seen : ℕ → Bool) (K : Kind) (vs : List Value) (i : ℕ) → K ≢ ENUM → All (λ v. kind v ≡ K) vs → had seen vs i ≡ seen i
+pub had-kept : (seen : ℕ → Bool) (K : Kind) (vs : List Value) (i : ℕ) → K ≢ ENUM → AllByRecursion (λ v. kind v ≡ K) vs → had seen vs i ≡ seen i
 had-kept seen K [] i h k = refl
 had-kept seen K (v ∷ vs) i h k = rw (unbranched-of v (λ e. h (sym k.0 ∙ e))) (had-kept seen K vs i h k.1)
 

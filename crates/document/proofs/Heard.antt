@@ -20,9 +20,9 @@ use Rattle.document.specs.Said.{asked}
 use Rattle.document.specs.Fetch.{supply}
 use Rattle.document.specs.declared.questions.Question.{Question}
 use Rattle.document.specs.declared.refusals.Refusal.TheVariants.{Count, Depth}
-use Rattle.std.specs.List.{AllByRecursion as All}
+use Rattle.std.specs.List.{AllByRecursion}
 use Rattle.document.proofs.Paths.{same_self, at-append, all_append}
-use Rattle.document.proofs.Count.{here, owes, due, Owing, next-owed, Balanced, turn-balanced, due-append, due-none, counted, counted-root}
+use Rattle.document.proofs.Count.{owes, due, Owing, next-owed, Balanced, turn-balanced, due-append, due-none, counted, counted-root}
 use Rattle.document.proofs.Texts.{Stands, texts-new, seen-touched, standing_on, standing-unit}
 use Rattle.document.proofs.Between.{input-new, at_here, unit_kind, touched, origin, nodesAt, unseen, remaining, Whole, whole-on, look-new, nodes-new, look-seen, nodes-seen, nodes-unit, remaining-unit, remaining-seen, whole-first, isNil}
 use Rattle.document.proofs.Taking.{has, has-whole, slotsLeft, recordsLeft, slots-step, records-step, branches-same, branches-credit, cells-by-node}
@@ -299,7 +299,7 @@ is-unit ENUM e = cc
 is-unit UNIT e = refl
 is-unit (TUPLE n) e = cc
 
-units-demand : (s : Step) (vs : List Value) → All (λ u. kind u ≡ UNIT) vs → total (demands s) vs ≡ 0
+units-demand : (s : Step) (vs : List Value) → AllByRecursion (λ u. kind u ≡ UNIT) vs → total (demands s) vs ≡ 0
 units-demand s [] h = refl
 units-demand s (v ∷ vs) h = omega (arith, units-demand s vs h.1, ap (λ K. demand K s (cell v)) h.0)
 
@@ -310,7 +310,7 @@ demanded s (x ∷ xs) ys k h = go (unit_kind (kind x)) refl
     go : (b : Bool) → unit_kind (kind x) ≡ b → not b ≡ true
     go true e =
         let u : kind x ≡ UNIT = is-unit (kind x) e in
-        let a : All (λ w. kind w ≡ kind x) xs = (all_append (λ w. kind w ≡ kind x) xs ys k).0 in
+        let a : AllByRecursion (λ w. kind w ≡ kind x) xs = (all_append (λ w. kind w ≡ kind x) xs ys k).0 in
         absurd (omega (arith, units-demand s (x ∷ xs) (u, rw u at a)))
     go false e = refl
 

@@ -3,7 +3,7 @@ use Rattle.std.proofs.lemmas.Bool.{eqb-true, eq-eqb, and_parts, and_from}
 use Rattle.document.specs.Calls.{total}
 use Rattle.document.specs.Entries.{Entry, at}
 use Rattle.document.specs.Nodes.{Step, Path, elem, key, value, field, alt, root, ◌▹◌, alike, same}
-use Rattle.std.specs.List.{AllByRecursion as All}
+use Rattle.std.specs.List.{AllByRecursion}
 
 pub alike_self : (s : Step) → alike s s ≡ true
 alike_self elem = refl
@@ -72,6 +72,6 @@ at-append q (d ∷ ds) es = aux (same d.node q) (at-append q ds es)
     aux true e = ap (λ xs. d.said ∷ xs) e
     aux false e = e
 
-pub all_append : {X : Type 0} (P : X → Type 0) (xs ys : List X) → All P (xs ++ ys) → All P xs × All P ys
+pub all_append : {X : Type 0} (P : X → Type 0) (xs ys : List X) → AllByRecursion P (xs ++ ys) → AllByRecursion P xs × AllByRecursion P ys
 all_append P [] ys h = (tt, h)
 all_append P (x ∷ xs) ys h = let r = all_append P xs ys h.1 in ((h.0, r.0), r.1)

@@ -14,7 +14,7 @@ use Rattle.document.specs.Fetch.{supply, parted, fetched, and_then, numbers, bey
 use Rattle.document.specs.Tables.{cells, lengthCells}
 use Rattle.document.specs.declared.scalars.Scalar.{Scalar}
 use Rattle.document.specs.declared.scalars.Scalar.TheVariants.{Bool as Bit, U8, U16, U32, U64, I8, I16, I32, I64, F32}
-use Rattle.std.specs.List.{AllByRecursion as All}
+use Rattle.std.specs.List.{AllByRecursion}
 
 numbers-back : (col : Meaning) (law : Lawful col) (column w : ℕ) (vs bs : List ℕ) (k : ℕ) → listed w ≡ true → Below w vs → length vs ≤ k
     → numbers col column w (length vs) (supply k (col.image w vs ++ bs)) ≡ fetched vs (supply (k - length vs) bs)
@@ -220,22 +220,22 @@ unfolding nums
 nums-length [] = refl
 nums-length (v ∷ vs) = ap suc (nums-length vs)
 
-as-numbers : (K : Kind) → isText K ≡ false → (vs : List Value) → All (λ v. kind v ≡ K) vs → each number (nums vs) ≡ each cell vs
+as-numbers : (K : Kind) → isText K ≡ false → (vs : List Value) → AllByRecursion (λ v. kind v ≡ K) vs → each number (nums vs) ≡ each cell vs
 unfolding nums
 as-numbers K f [] h = refl
 as-numbers K f (v ∷ vs) h = ap₂ {C = List Cell} ◌∷◌ (as_number K f v h.0) (as-numbers K f vs h.1)
 
-as-extents : (K : Kind) → hasLength K ≡ true → (vs : List Value) → All (λ v. kind v ≡ K) vs → sum (nums vs) ≡ total extent vs
+as-extents : (K : Kind) → hasLength K ≡ true → (vs : List Value) → AllByRecursion (λ v. kind v ≡ K) vs → sum (nums vs) ≡ total extent vs
 unfolding nums
 as-extents K f [] h = refl
 as-extents K f (v ∷ vs) h = ap₂ ◌+◌ (as-extent K f v h.0) (as-extents K f vs h.1)
 
-scalars-below : (k : Scalar) (vs : List Value) → All (λ v. kind v ≡ SCALAR k) vs → All (Fits) vs → Below (width k) (nums vs)
+scalars-below : (k : Scalar) (vs : List Value) → AllByRecursion (λ v. kind v ≡ SCALAR k) vs → AllByRecursion (Fits) vs → Below (width k) (nums vs)
 unfolding nums
 scalars-below k [] h f = tt
 scalars-below k (v ∷ vs) h f = (scalar_below k v h.0 f.0, scalars-below k vs h.1 f.1)
 
-enums-below : (vs : List Value) → All (λ v. kind v ≡ ENUM) vs → All (Fits) vs → Below 8 (nums vs)
+enums-below : (vs : List Value) → AllByRecursion (λ v. kind v ≡ ENUM) vs → AllByRecursion (Fits) vs → Below 8 (nums vs)
 unfolding nums
 enums-below [] h f = tt
 enums-below (v ∷ vs) h f = (enum-below v h.0 f.0, enums-below vs h.1 f.1)
@@ -248,26 +248,26 @@ unfolding strs
 strs-length [] = refl
 strs-length (v ∷ vs) = ap suc (strs-length vs)
 
-strs-lengths : (vs : List Value) → All (λ v. kind v ≡ TEXT) vs → each length (strs vs) ≡ nums vs
+strs-lengths : (vs : List Value) → AllByRecursion (λ v. kind v ≡ TEXT) vs → each length (strs vs) ≡ nums vs
 unfolding strs nums
 strs-lengths [] h = refl
 strs-lengths (v ∷ vs) h = ap₂ {C = List ℕ} ◌∷◌ (str-length v h.0) (strs-lengths vs h.1)
 
-strs-fine : (vs : List Value) → All (λ v. kind v ≡ TEXT) vs → All (Fits) vs → allPass (strs vs) ≡ true
+strs-fine : (vs : List Value) → AllByRecursion (λ v. kind v ≡ TEXT) vs → AllByRecursion (Fits) vs → allPass (strs vs) ≡ true
 unfolding strs
 strs-fine [] h f = refl
 strs-fine (v ∷ vs) h f = and_from _ _ (str-fine v h.0 f.0) (strs-fine vs h.1 f.1)
 
-as-texts : (vs : List Value) → All (λ v. kind v ≡ TEXT) vs → each letters (strs vs) ≡ each cell vs
+as-texts : (vs : List Value) → AllByRecursion (λ v. kind v ≡ TEXT) vs → each letters (strs vs) ≡ each cell vs
 unfolding strs
 as-texts [] h = refl
 as-texts (v ∷ vs) h = ap₂ {C = List Cell} ◌∷◌ (as-letters v h.0) (as-texts vs h.1)
 
-as-tuples : (n : ℕ) (vs : List Value) → All (λ v. kind v ≡ TUPLE n) vs → replicate (length vs) (number n) ≡ each cell vs
+as-tuples : (n : ℕ) (vs : List Value) → AllByRecursion (λ v. kind v ≡ TUPLE n) vs → replicate (length vs) (number n) ≡ each cell vs
 as-tuples n [] h = refl
 as-tuples n (v ∷ vs) h = ap₂ {C = List Cell} ◌∷◌ (sym (as-tuple n v h.0)) (as-tuples n vs h.1)
 
-as-units : (vs : List Value) → All (λ v. kind v ≡ UNIT) vs → replicate (length vs) (number 0) ≡ each cell vs
+as-units : (vs : List Value) → AllByRecursion (λ v. kind v ≡ UNIT) vs → replicate (length vs) (number 0) ≡ each cell vs
 as-units [] h = refl
 as-units (v ∷ vs) h = ap₂ {C = List Cell} ◌∷◌ (sym (as-unit v h.0)) (as-units vs h.1)
 
@@ -293,7 +293,7 @@ one_cell K f (seq n) e = cc (ap plainKind e)
 one_cell K f (map n) e = cc (ap plainKind e)
 one_cell K f (tuple n) e = cc (ap plainKind e)
 
-plain_cells : (K : Kind) → plainKind K ≡ true → (vs : List Value) → All (λ v. kind v ≡ K) vs → total cells vs ≡ length vs
+plain_cells : (K : Kind) → plainKind K ≡ true → (vs : List Value) → AllByRecursion (λ v. kind v ≡ K) vs → total cells vs ≡ length vs
 plain_cells K f [] h = refl
 plain_cells K f (v ∷ vs) h = omega (arith, one_cell K f v h.0, plain_cells K f vs h.1)
 
@@ -312,12 +312,12 @@ length-cell K f (tuple n) e = cc (ap hasLength e)
 longs-length : (n : ℕ) (ns : List ℕ) → suc (length ns) + length (longs (n ∷ ns)) ≡ lengthCells n + (length ns + length (longs ns))
 longs-length n ns = grind (arith, nat_tests)
 
-length-cells : (K : Kind) → hasLength K ≡ true → (vs : List Value) → All (λ v. kind v ≡ K) vs → length (nums vs) + length (longs (nums vs)) ≡ total cells vs
+length-cells : (K : Kind) → hasLength K ≡ true → (vs : List Value) → AllByRecursion (λ v. kind v ≡ K) vs → length (nums vs) + length (longs (nums vs)) ≡ total cells vs
 unfolding nums
 length-cells K f [] h = refl
 length-cells K f (v ∷ vs) h = omega (arith, length-cell K f v h.0, length-cells K f vs h.1, longs-length (num (cell v)) (nums vs))
 
-no_cells : (K : Kind) → ((v : Value) → kind v ≡ K → cells v ≡ 0) → (vs : List Value) → All (λ v. kind v ≡ K) vs → total cells vs ≡ 0
+no_cells : (K : Kind) → ((v : Value) → kind v ≡ K → cells v ≡ 0) → (vs : List Value) → AllByRecursion (λ v. kind v ≡ K) vs → total cells vs ≡ 0
 no_cells K f [] h = refl
 no_cells K f (v ∷ vs) h = omega (arith, f v h.0, no_cells K f vs h.1)
 
@@ -345,7 +345,7 @@ tuple-cell m (tuple n) e = refl
 
 -- numbers and lengths of values, as cells
 values-back : (col : Meaning) (law : Lawful col) (column w : ℕ) (K : Kind) (vs : List Value) (bs : List ℕ) (k : ℕ) → isText K ≡ false → plainKind K ≡ true → listed w ≡ true
-    → All (λ v. kind v ≡ K) vs → Below w (nums vs) → total cells vs ≤ k
+    → AllByRecursion (λ v. kind v ≡ K) vs → Below w (nums vs) → total cells vs ≤ k
     → and_then (numbers col column w (length vs) (supply k (col.image w (nums vs) ++ bs))) asNumbers ≡ fetched (each cell vs) (supply (k - total cells vs) bs)
 values-back col law column w K vs bs k f p l h b room =
     let c : total cells vs ≡ length (nums vs) = plain_cells K p vs h ∙ sym (nums-length vs) in
@@ -353,7 +353,7 @@ values-back col law column w K vs bs k f p l h b room =
     rw (← (nums-length vs), c) (numbers-back col law column w (nums vs) bs k l b (omega arith)) in
     ap (λ x. and_then x asNumbers) e ∙ ap (λ cs. fetched cs (supply (k - total cells vs) bs)) (as-numbers K f vs h)
 
-counts-back : (col : Meaning) (law : Lawful col) (column : ℕ) (K : Kind) (vs : List Value) (bs : List ℕ) (k : ℕ) → isText K ≡ false → hasLength K ≡ true → All (λ v. kind v ≡ K) vs
+counts-back : (col : Meaning) (law : Lawful col) (column : ℕ) (K : Kind) (vs : List Value) (bs : List ℕ) (k : ℕ) → isText K ≡ false → hasLength K ≡ true → AllByRecursion (λ v. kind v ≡ K) vs
     → total extent vs < limit → total cells vs ≤ k
     → and_then (lengths col column (length vs) (supply k (lengthBytes col (nums vs) ++ bs))) asNumbers ≡ fetched (each cell vs) (supply (k - total cells vs) bs)
 counts-back col law column K vs bs k f l h b room =
@@ -362,7 +362,7 @@ counts-back col law column K vs bs k f l h b room =
     rw (← (nums-length vs), ← c) (lengths-back col law column (nums vs) bs k (rw (as-extents K l vs h) b) (omega arith)) in
     ap (λ x. and_then x asNumbers) e ∙ ap (λ cs. fetched cs (supply (k - total cells vs) bs)) (as-numbers K f vs h)
 
-words_back : (col : Meaning) (law : Lawful col) (column : ℕ) (vs : List Value) (bs : List ℕ) (k : ℕ) → All (λ v. kind v ≡ TEXT) vs → All (Fits) vs → total extent vs < limit → total cells vs ≤ k
+words_back : (col : Meaning) (law : Lawful col) (column : ℕ) (vs : List Value) (bs : List ℕ) (k : ℕ) → AllByRecursion (λ v. kind v ≡ TEXT) vs → AllByRecursion (Fits) vs → total extent vs < limit → total cells vs ≤ k
     → and_then (texts col column (length vs) (supply k ((lengthBytes col (nums vs) ++ joined (strs vs)) ++ bs))) asLetters ≡ fetched (each cell vs) (supply (k - total cells vs) bs)
 unfolding hasLength
 words_back col law column vs bs k h f b room =
@@ -373,7 +373,7 @@ words_back col law column vs bs k h f b room =
     ap (λ x. and_then x asLetters) e ∙ ap (λ cs. fetched cs (supply (k - total cells vs) bs)) (as-texts vs h)
 
 -- what a node's columns hold is read back, whatever follows them
-pub fetch-back : (col : Meaning) (law : Lawful col) (column : ℕ) (K : Kind) (vs : List Value) (bs : List ℕ) (k : ℕ) → All (λ v. kind v ≡ K) vs → All (Fits) vs → total extent vs < limit → total cells vs ≤ k
+pub fetch-back : (col : Meaning) (law : Lawful col) (column : ℕ) (K : Kind) (vs : List Value) (bs : List ℕ) (k : ℕ) → AllByRecursion (λ v. kind v ≡ K) vs → AllByRecursion (Fits) vs → total extent vs < limit → total cells vs ≤ k
     → fetch col column K (length vs) (supply k (columns col K (each cell vs) ++ bs)) ≡ fetched (each cell vs) (supply (k - total cells vs) bs)
 unfolding fetch columns isText hasLength plainKind nums strs
 fetch-back col law column (SCALAR j) vs bs k h f b r = values-back col law column (width j) (SCALAR j) vs bs k refl refl (width-listed j) h (scalars-below j vs h f) r

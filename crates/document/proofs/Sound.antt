@@ -1,6 +1,6 @@
 -- What a node may hold, and that the nodes of an accepted list hold nothing else.
 use Rattle.std.proofs.Common.{◌≡◌, ◌+◌, ◌^◌, ◌<◌, ◌≤◌, true, List, [], ◌∷◌}
-use Rattle.std.specs.List.{AllByRecursion as All}
+use Rattle.std.specs.List.{AllByRecursion}
 use Rattle.utf8.specs.Passes.{passes}
 use Rattle.document.specs.Calls.{width, total, extent, Value, scalar, text, unit, none, some, variant, seq, map, tuple, kind, Call}
 use Rattle.document.specs.Nodes.{Path}
@@ -26,11 +26,11 @@ Fits (tuple n) = Unit {0}
 -- every value at a node is of the first one's kind
 abbrev pub OneKind : List Value → Type 0
 OneKind [] = Unit {0}
-OneKind (v ∷ vs) = All (λ u. kind u ≡ kind v) vs
+OneKind (v ∷ vs) = AllByRecursion (λ u. kind u ≡ kind v) vs
 
 pub record Sound (vs : List Value) : Type 0 where
   pub one-kind : OneKind vs
-  pub fits : All Fits vs
+  pub fits : AllByRecursion Fits vs
   pub short-of : total extent vs < limit
 
 -- one whole value, every call in its place, every node sound, and within the tables

@@ -6,7 +6,7 @@ use Rattle.document.specs.Calls.{Value, kind, total}
 use Rattle.document.specs.Entries.{Entry, entry, at}
 use Rattle.document.specs.Nodes.{Path, ◌▹◌, alt, same}
 use Rattle.document.specs.Tables.{cells, cells_of, takes, Branch, unbranched, branch, branchOf, newBranch, withBranch, branches, marks}
-use Rattle.std.specs.List.{AllByRecursion as All}
+use Rattle.std.specs.List.{AllByRecursion}
 use Rattle.document.proofs.Paths.{same_self, same_true}
 use Rattle.document.proofs.Between.{unseen, isNil, not-nil, at_here, at-past, at_on, at_off}
 
@@ -201,10 +201,10 @@ cells-by-node (d ∷ es) =
 
 -- ---- what holds of each node that has values holds of each path
 
-all-has : (P : Path → Type 0) (p : Path) (qs : List Path) → has p qs ≡ true → All P qs → P p
+all-has : (P : Path → Type 0) (p : Path) (qs : List Path) → has p qs ≡ true → AllByRecursion P qs → P p
 all-has P p [] e a = let z : ◌≡◌ {A = ℕ} 0 1 = cc in absurd (omega arith)
 all-has P p (q ∷ qs) e a = go (same p q) refl e (all-has P p qs)
   where
-    go : (b : Bool) → same p q ≡ b → (b || has p qs) ≡ true → (has p qs ≡ true → All P qs → P p) → P p
+    go : (b : Bool) → same p q ≡ b → (b || has p qs) ≡ true → (has p qs ≡ true → AllByRecursion P qs → P p) → P p
     go true s k ih = subst P (sym (same_true p q s)) a.0
     go false s k ih = ih k a.1

@@ -1,6 +1,6 @@
 -- Where the texts of a node stand in the input.
 use Rattle.std.proofs.Common.{◌≡◌, ℕ, ◌+◌, ◌-◌, Bool, true, false, cond, not, List, [], ◌∷◌, ◌++◌, map as each, length, take, drop, sym, refl, ap, ◌∙◌, subst, append_assoc, add-zero, arith, length-append}
-use Rattle.std.specs.List.{AllByRecursion as All}
+use Rattle.std.specs.List.{AllByRecursion}
 use Rattle.std.proofs.lemmas.List.{take_at, drop_at, drop-drop}
 use Rattle.column.specs.Meaning.{Meaning}
 use Rattle.document.specs.Calls.{total, Kind, SCALAR, TEXT, SEQ, MAP, ENUM, UNIT, TUPLE, Cell, str, num, Value, scalar, text, unit, none, some, variant, seq, map, tuple, kind, cell}
@@ -39,7 +39,7 @@ no-letters K f (seq n) e = refl
 no-letters K f (map n) e = refl
 no-letters K f (tuple n) e = refl
 
-stands-none : (input : List ℕ) (K : Kind) → isText K ≡ false → (vs : List Value) → All (λ v. kind v ≡ K) vs → (k : ℕ) → Stands input k (each cell vs)
+stands-none : (input : List ℕ) (K : Kind) → isText K ≡ false → (vs : List Value) → AllByRecursion (λ v. kind v ≡ K) vs → (k : ℕ) → Stands input k (each cell vs)
 stands-none input K f [] h k = tt
 stands-none input K f (v ∷ vs) h k = let e = no-letters K f v h.0 in (rw e refl, stands-none input K f vs h.1 (k + letterCount (cell v)))
 
@@ -48,7 +48,7 @@ letters-joined [] = refl
 letters-joined (c ∷ cs) = omega (arith, letters-joined cs, length-append (str c) (joined (each str cs)))
 
 -- a node's texts stand at the end of its bytes
-stands-new : (col : Meaning) (input : List ℕ) (K : Kind) (vs : List Value) (rest : List ℕ) (place : ℕ) → All (λ u. kind u ≡ K) vs
+stands-new : (col : Meaning) (input : List ℕ) (K : Kind) (vs : List Value) (rest : List ℕ) (place : ℕ) → AllByRecursion (λ u. kind u ≡ K) vs
     → drop place input ≡ columns col K (each cell vs) ++ rest → Stands input (place + length (columns col K (each cell vs)) - total letterCount (each cell vs)) (each cell vs)
 unfolding columns isText
 stands-new col input (SCALAR k) vs rest place h e = stands-none input (SCALAR k) refl vs h _
@@ -65,7 +65,7 @@ stands-new col input ENUM vs rest place h e = stands-none input ENUM refl vs h _
 stands-new col input UNIT vs rest place h e = stands-none input UNIT refl vs h _
 stands-new col input (TUPLE n) vs rest place h e = stands-none input (TUPLE n) refl vs h _
 
-pub texts-new : (col : Meaning) (input : List ℕ) (K : Kind) (vs : List Value) (rest : List ℕ) (place : ℕ) → All (λ u. kind u ≡ K) vs → drop place input ≡ columns col K (each cell vs) ++ rest
+pub texts-new : (col : Meaning) (input : List ℕ) (K : Kind) (vs : List Value) (rest : List ℕ) (place : ℕ) → AllByRecursion (λ u. kind u ≡ K) vs → drop place input ≡ columns col K (each cell vs) ++ rest
     → Stands input (place + length (columns col K (each cell vs)) - total letterCount (each cell vs)) (each cell vs) × (drop (place + length (columns col K (each cell vs))) input ≡ rest)
 texts-new col input K vs rest place h e =
     let cols : List ℕ = columns col K (each cell vs) in

@@ -47,8 +47,8 @@ Asked (q ∷ qs) (c ∷ cs) = Asks q c × Asked qs cs
 
 -- A reader over the bytes of an accepted document, with tables no smaller than the writer's, asked each call's question, hears the calls:
 -- none is refused, and what follows the document is left.
-abbrev pub Replays-within : Type 0
-Replays-within = (col : Meaning) → Lawful col → (sizes : Sizes) (cs : List Call) → Accepted sizes cs → Done cs → (qs : List Question) → Asked qs cs
+abbrev pub ReplaysWithin : Type 0
+ReplaysWithin = (col : Meaning) → Lawful col → (sizes : Sizes) (cs : List Call) → Accepted sizes cs → Done cs → (qs : List Question) → Asked qs cs
     → (nodes slots : ℕ) → sizes.nodes ≤ nodes → sizes.cells ≤ slots → (after : List ℕ)
     → replay col (bytes col cs ++ after) (begin nodes slots (bytes col cs ++ after)) qs ≡ heard cs after
 

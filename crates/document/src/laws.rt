@@ -1,7 +1,7 @@
 //! The laws of documents: theorems over the definitions that the contracts of the code use.
 
 ghost use Rattle.std.specs.Prelude.{◌≡◌, true};
-ghost use Rattle.document.specs.Theorems.{Grammatical, Conservation, Allocation, Replays-within, Replays, Faithful};
+ghost use Rattle.document.specs.Theorems.{Grammatical, Conservation, Allocation, ReplaysWithin, Replays, Faithful};
 ghost use Rattle.document.specs.Examples.{examples};
 
 /// A law that is proved. A function below answers each, and its contract is the law.
@@ -42,7 +42,7 @@ pub fn allocation() -> Law
 /// A reader over an accepted document's bytes hears its calls, over every column kind, and finishes; bytes after the document are left.
 pub fn replay() -> Law
     ensures answer { result ≡ Law.Replay }
-    ensures within { Replays-within }
+    ensures within { ReplaysWithin }
     ensures finish { Replays }
 {
     Law::Replay

@@ -1,4 +1,5 @@
 //! What a document is: its calls and questions, its refusals, and the laws of whole runs.
+#![tactic(auto)]
 
 pub mod calls;
 pub mod laws;

@@ -1,6 +1,6 @@
 -- The rows of the table are the encodings of the scalar values.
 use Rattle.std.proofs.Common.{◌≡◌, ℕ, ◌+◌, ◌-◌, ◌*◌, ◌/◌, ◌%◌, ◌<◌, ◌≤◌, List, [], ◌∷◌, get_or, refl, ◌∙◌, subst, inl, inr, ⊎_elim, arith, lit<}
-use Rattle.std.specs.List.{flat_map, AllByRecursion as All}
+use Rattle.std.specs.List.{flat_map, AllByRecursion}
 use Rattle.std.proofs.lemmas.Bool.{lt-ltb, le-ltb, cases_lt}
 use Rattle.std.proofs.ByRecursion.{all-has, has_get_or}
 use Rattle.utf8.specs.Table.{Range, Row, table, In, Fits, WellFormed, empty, more, ◌‥◌}
@@ -116,7 +116,7 @@ infixr 5 ◌also◌
 a also b = (a, b)
 
 -- row by row
-table-meant : All Meant table
+table-meant : AllByRecursion Meant table
 table-meant =
     one-meant
     also two-meant
@@ -140,7 +140,7 @@ to-encodes (more row bytes rest h f w) =
     (p.0 ∷ q.0, (p.1, q.1), cc)
 
 -- encodings one after another are well-formed
-joined-well : (us : List ℕ) → All Scalar us → WellFormed (flat_map encode us)
+joined-well : (us : List ℕ) → AllByRecursion Scalar us → WellFormed (flat_map encode us)
 joined-well [] a = empty
 joined-well (u ∷ us) a =
     let p = fitted u a.0 in

@@ -1,6 +1,6 @@
 -- The guard of an arm, and the row of the table that it tests.
 use Rattle.std.proofs.Common.{◌≡◌, ℕ, suc, ◌+◌, ◌-◌, ◌<◌, ◌≤◌, Bool, true, false, ◌&&◌, List, [], ◌∷◌, length, get_or, take, drop, sym, refl, ap, ◌∙◌, subst, inl, inr, add-one, arith}
-use Rattle.std.specs.List.{AllByRecursion as All}
+use Rattle.std.specs.List.{AllByRecursion}
 use Rattle.std.proofs.lemmas.Bool.{and_right, cases_lt}
 use Rattle.std.proofs.lemmas.List.{take_rest, drop_more, take-append-drop}
 use Rattle.std.proofs.ByRecursion.{has_get_or, All-weaker, All-append}
@@ -55,12 +55,12 @@ taken k {s} {text} a b l e =
     rw (take_rest s (length row)) (λ w. a.0 (f.0 w), λ w. f.1 (a.1 w))
 
 -- no arm is taken: the first k guards fail, and the text is too short for the other rows
-pub none-taken : (k : ℕ) (s : List ℕ) → 1 ≤ length s → All (λ row. guard row s ≡ false) (take k table) → All (λ row. length s < length row) (drop k table) → WellFormed s → ⊥
+pub none-taken : (k : ℕ) (s : List ℕ) → 1 ≤ length s → AllByRecursion (λ row. guard row s ≡ false) (take k table) → AllByRecursion (λ row. length s < length row) (drop k table) → WellFormed s → ⊥
 none-taken k s l a b =
     let fails : (row : Row) → guard row s ≡ false → begins row s ≡ false =
     λ row e. elim (cases_lt (length s) (length row)) [ inl h ↦ too_short row s h | inr h ↦ sym (guard-begins row s h) ∙ e ] in
     let P : Row → Type 0 = λ row. begins row s ≡ false in
-    no_row s l (subst (All P) (take-append-drop k table)
+    no_row s l (subst (AllByRecursion P) (take-append-drop k table)
     (All-append P (take k table) (drop k table)
     (All-weaker (λ row. guard row s ≡ false) P fails (take k table) a)
     (All-weaker (λ row. length s < length row) P (λ row h. too_short row s h) (drop k table) b)))

@@ -1,6 +1,6 @@
 -- A text that begins with a row of the table: what is left is well-formed exactly when the text is.
 use Rattle.std.proofs.Common.{◌≡◌, ℕ, zero, suc, ◌≤◌, Bool, true, false, ◌&&◌, ◌||◌, eqb, ltb, leb, List, [], ◌∷◌, ◌++◌, length, get_or, take, drop, Decides, sym, refl, ap, ◌∙◌, subst, inl, inr, arith}
-use Rattle.std.specs.List.{ContainsAt as Has, AllByRecursion as All}
+use Rattle.std.specs.List.{ContainsAt as Has, AllByRecursion}
 use Rattle.std.proofs.lemmas.Bool.{leb-true, le-leb, ltb-true, eqb-true, and_parts, and_from, or_cases, false≢true}
 use Rattle.std.proofs.lemmas.List.{take-append-drop, drop_at, length-append}
 use Rattle.std.proofs.ByRecursion.{all-has, has_get_or, Decides-by_and}
@@ -101,7 +101,7 @@ pub after-row : (row : Row) (s : List ℕ) → Has table row → begins row s �
 after-row row s h e = (with_row row s h e, without-row row s h e)
 
 -- bytes that begin with no row are not well-formed
-pub no_row : (s : List ℕ) → 1 ≤ length s → All (λ row. begins row s ≡ false) table → WellFormed s → ⊥
+pub no_row : (s : List ℕ) → 1 ≤ length s → AllByRecursion (λ row. begins row s ≡ false) table → WellFormed s → ⊥
 no_row _ l a empty = absurd (omega arith)
 no_row _ l a (more row bytes rest k f w) = false≢true (sym (all-has (λ r. begins r (bytes ++ rest) ≡ false) table row a k) ∙ fits-begins row bytes rest f)
 

@@ -1,6 +1,6 @@
 -- What the contract says of an answer, from what it says of the table.
 use Rattle.std.proofs.Common.{◌≡◌, ℕ, ◌<◌, ◌≤◌, true, false, cond, List, length, take, drop, is_ok, Ok, Err, Decides, Result, sym, subst}
-use Rattle.std.specs.List.{AllByRecursion as All}
+use Rattle.std.specs.List.{AllByRecursion}
 use Rattle.std.proofs.lemmas.List.{nil_from_length}
 use Rattle.std.proofs.lemmas.Bool.{both_ways}
 use Rattle.std.proofs.lemmas.Bool.Decides.{same_from_decides, Decides-like}
@@ -38,6 +38,6 @@ pub accepted : {s text : List ℕ} {r : Result (Unit {0}) Fault} → Alike s tex
 accepted {s} {text} {r} a none e = said text r (λ _. a.0 (subst WellFormed (sym (nil_from_length s none)) empty), λ _. e)
 
 -- where the first k guards fail, and what is left is too short for the other rows
-pub refused : (k : ℕ) {s text : List ℕ} {r : Result (Unit {0}) Fault} → Alike s text → 1 ≤ length s → All (λ row. guard row s ≡ false) (take k table) → All (λ row. length s < length row) (drop k table) → is_ok r ≡ false → Said text r
+pub refused : (k : ℕ) {s text : List ℕ} {r : Result (Unit {0}) Fault} → Alike s text → 1 ≤ length s → AllByRecursion (λ row. guard row s ≡ false) (take k table) → AllByRecursion (λ row. length s < length row) (drop k table) → is_ok r ≡ false → Said text r
 refused k {s} {text} {r} a some fails short e =
     said text r (λ t. absurd (both_ways (is_ok r) e t), λ w. absurd (none-taken k s some fails short (a.1 w)))

@@ -1,6 +1,6 @@
 -- Text as Unicode scalar values, each encoded by the bit distribution of UTF-8: table 3-6 of the Unicode Standard.
 use Rattle.std.specs.Prelude.{◌≡◌, ℕ, ◌+◌, ◌/◌, ◌%◌, ◌≤◌, cond, ◌⊎◌, List, [], ◌∷◌, nat_lt}
-use Rattle.std.specs.List.{flat_map, AllByRecursion as All}
+use Rattle.std.specs.List.{flat_map, AllByRecursion}
 
 -- u is a scalar value: a code point that is no surrogate
 abbrev pub Scalar : ℕ → Type 0
@@ -17,4 +17,4 @@ encode u =
 
 -- the text is the encodings of some scalar values, one after another
 abbrev pub Encodes : List ℕ → Type 0
-Encodes text = (us : List ℕ) × All Scalar us × (flat_map encode us ≡ text)
+Encodes text = (us : List ℕ) × AllByRecursion Scalar us × (flat_map encode us ≡ text)

@@ -1,4 +1,5 @@
 //! The test whether bytes are well-formed UTF-8.
+#![tactic(auto)]
 
 ghost use Rattle.std.specs.Prelude.{◌≡◌, true, ◌&&◌, is_ok, if◌then◌else◌, Ok, Err, Decides, nat_le};
 ghost use Rattle.utf8.specs.Table.{WellFormed};

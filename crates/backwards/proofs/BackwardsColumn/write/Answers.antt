@@ -1,8 +1,8 @@
 use Rattle.std.proofs.Common.{◌&&◌, reverse}
 use Rattle.column.specs.Widths.{listed, below}
-use Rattle.column.specs.Choice.{chose}
-use Rattle.column.specs.Layers.{layer-written}
-use Rattle.backwards.specs.Reversal.{reverse-undone}
+use Rattle.column.proofs.Choice.{chose}
+use Rattle.column.proofs.Layers.{layer-written}
+use Rattle.backwards.specs.Laws.{reverse-undone}
 use Rattle.backwards.proofs.BackwardsColumn.write.Goals as goal
 
 pub returns : goal.returns

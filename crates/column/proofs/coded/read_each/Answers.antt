@@ -1,8 +1,8 @@
-use Rattle.std.proofs.Common.{◌-◌, length, arith, length-drop}
+use Rattle.std.proofs.Common.{length, arith, length-drop}
 use Rattle.std.proofs.lemmas.Result.{IfOk-from_err}
 use Rattle.column.specs.Widths.{listed}
-use Rattle.column.specs.Choice.{chose, passed_on}
-use Rattle.column.specs.OneByOne.{taken-got, taken-within, reading-more, reading-all, reading-none}
+use Rattle.column.proofs.Choice.{chose, passed_on}
+use Rattle.column.proofs.OneByOne.{taken-got, taken-within, reading-more, reading-all, reading-none}
 use Rattle.column.proofs.coded.read_each.Goals as goal
 
 pub take-requires : goal.take-requires

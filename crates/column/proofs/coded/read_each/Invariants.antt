@@ -1,5 +1,5 @@
 use Rattle.std.proofs.Common.{length}
-use Rattle.column.specs.OneByOne.{Reading}
+use Rattle.column.proofs.OneByOne.{Reading}
 use Rattle.column.proofs.coded.read_each.Given as goal
 
 abbrev pub invariant-loop-value : goal.invariant-loop-value

@@ -2,9 +2,9 @@ use Rattle.std.proofs.Common.{ℕ, ◌+◌, ◌^◌, ◌<◌, ◌&&◌, leb, len
 use Rattle.std.proofs.lemmas.Bool.{and_parts, leb-true, leb-false}
 use Rattle.std.proofs.ByRecursion.{All-get_or}
 use Rattle.column.specs.Widths.{listed, below}
-use Rattle.column.specs.Choice.{chose, declined, passed_on}
-use Rattle.column.specs.WidthsLemmas.{below-decides}
-use Rattle.column.specs.OneByOne.{Putting, putting-more, putting-all, putting-none}
+use Rattle.column.proofs.Choice.{chose, declined, passed_on}
+use Rattle.column.proofs.Widths.{below-decides}
+use Rattle.column.proofs.OneByOne.{Putting, putting-more, putting-all, putting-none}
 use Rattle.column.proofs.coded.write_each.Goals as goal
 
 pub put-requires : goal.put-requires

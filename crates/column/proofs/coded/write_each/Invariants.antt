@@ -1,4 +1,4 @@
-use Rattle.column.specs.OneByOne.{Putting}
+use Rattle.column.proofs.OneByOne.{Putting}
 use Rattle.column.proofs.coded.write_each.Given as goal
 
 abbrev pub invariant-loop-value : goal.invariant-loop-value

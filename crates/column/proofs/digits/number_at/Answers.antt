@@ -1,7 +1,7 @@
 use Rattle.std.proofs.Common.{◌≡◌, ℕ, ◌+◌, ◌-◌, ◌*◌, ◌%◌, take, drop, sym, ap, ◌∙◌, arith, length-take}
 use Rattle.std.proofs.lemmas.List.{drop_all}
 use Rattle.column.specs.Digits.{total}
-use Rattle.column.specs.Numbers.{number_more, total-part}
+use Rattle.column.proofs.Numbers.{number_more, total-part}
 use Rattle.column.proofs.digits.number_at.Goals as goal
 
 pub loop-k-init : goal.loop-k-init

@@ -2,8 +2,8 @@ use Rattle.std.proofs.Common.{◌≡◌, ℕ, ◌+◌, ◌-◌, sym, ap, ◌∙�
 use native.Mathlib.Nat.{sub-zero}
 use Rattle.column.specs.Interface.{overlaid}
 use Rattle.column.specs.Digits.{low}
-use Rattle.column.specs.Overlaid.{overlaid-nil}
-use Rattle.column.specs.Numbers.{low-more}
+use Rattle.column.proofs.Overlaid.{overlaid-nil}
+use Rattle.column.proofs.Numbers.{low-more}
 use Rattle.column.proofs.digits.put_low.Goals as goal
 
 pub loop-k-init : goal.loop-k-init

@@ -1,6 +1,6 @@
 use Rattle.std.proofs.Common.{drop, arith, length-drop}
 use Rattle.std.proofs.lemmas.List.{get_or-drop}
-use Rattle.column.specs.Leb128.{front-more, front-last, front-short, front-bad}
+use Rattle.column.proofs.Leb128.{front-more, front-last, front-short, front-bad}
 use Rattle.column.proofs.short.form_size.Goals as goal
 
 pub returns-then-k-input : goal.returns-then-k-input

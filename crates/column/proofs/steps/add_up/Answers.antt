@@ -1,7 +1,7 @@
 use Rattle.std.proofs.Common.{ℕ, ◌+◌, ◌∷◌, get_or, drop, sym, refl, ap, ◌∙◌, arith}
 use Rattle.std.proofs.lemmas.List.{drop_more}
 use Rattle.column.specs.Steps.{sums}
-use Rattle.column.specs.Differences.{added, changed-more, changed-all}
+use Rattle.column.proofs.Differences.{added, changed-more, changed-all}
 use Rattle.column.proofs.steps.add_up.Goals as goal
 
 pub loop-value-preserved : goal.loop-value-preserved

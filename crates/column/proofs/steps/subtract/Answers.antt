@@ -2,7 +2,7 @@ use Rattle.std.proofs.Common.{ℕ, ◌+◌, ◌∷◌, get_or, drop, sym, refl, 
 use Rattle.std.proofs.lemmas.List.{drop_more, drop-set-lt}
 use Rattle.column.specs.Widths.{Below}
 use Rattle.column.specs.Steps.{differences}
-use Rattle.column.specs.Differences.{subtracted, changed-more, changed-all}
+use Rattle.column.proofs.Differences.{subtracted, changed-more, changed-all}
 use Rattle.column.proofs.steps.subtract.Goals as goal
 
 pub loop-value-init : goal.loop-value-init

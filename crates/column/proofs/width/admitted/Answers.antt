@@ -1,8 +1,8 @@
-use Rattle.std.proofs.Common.{◌≡◌, ◌-◌, true, false, sym, ◌∙◌, rules}
+use Rattle.std.proofs.Common.{◌≡◌, true, false, sym, ◌∙◌, rules}
 use Rattle.std.proofs.lemmas.List.{at_drop_all}
 use Rattle.column.specs.Widths.{listed, below}
-use Rattle.column.specs.Choice.{chose}
-use Rattle.column.specs.WidthsLemmas.{below_more, below-never}
+use Rattle.column.proofs.Choice.{chose}
+use Rattle.column.proofs.Widths.{below_more, below-never}
 use Rattle.column.proofs.width.admitted.Goals as goal
 
 pub loop-value-preserved : goal.loop-value-preserved

@@ -1,6 +1,6 @@
 use Rattle.std.proofs.Common.{ℕ, take, drop, Ok, ap, ◌∙◌, arith, length-drop}
 use Rattle.column.specs.Digits.{total}
-use Rattle.column.specs.LowFirst.{one-short, one-got}
+use Rattle.column.proofs.LowFirst.{one-short, one-got}
 use Rattle.column.proofs.flat.FlatCode.take.Goals as goal
 
 pub returns-then-size-input : goal.returns-then-size-input

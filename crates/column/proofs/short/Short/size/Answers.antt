@@ -1,5 +1,6 @@
 use Rattle.std.proofs.Common.{length, ap, arith}
-use Rattle.column.specs.Leb128.{leb_small, leb-more, leb-fewest, length-leb}
+use Rattle.column.proofs.Leb128.{leb_small, leb-more}
+use Rattle.column.specs.Laws.Short.{leb-fewest, length-leb}
 use Rattle.column.proofs.short.Short.size.Goals as goal
 
 pub loop-left-preserved : goal.loop-left-preserved

@@ -2,8 +2,8 @@ use Rattle.std.proofs.Common.{◌+◌, length, Ok, Err, ap, add-zero, arith}
 use Rattle.std.proofs.lemmas.Bool.{le-leb, lt-leb}
 use Rattle.column.specs.declared.fault.Cause.TheVariants.{Room}
 use Rattle.column.specs.Short.{leb128}
-use Rattle.column.specs.Choice.{found_here}
-use Rattle.column.specs.Leb128.{grouping-more, grouping-last, grouping-none}
+use Rattle.column.proofs.Choice.{found_here}
+use Rattle.column.proofs.Leb128.{grouping-more, grouping-last, grouping-none}
 use Rattle.column.proofs.short.ShortCode.put.Goals as goal
 
 pub loop-rest-preserved : goal.loop-rest-preserved

@@ -1,4 +1,4 @@
-use Rattle.column.specs.Leb128.{Grouping}
+use Rattle.column.proofs.Leb128.{Grouping}
 use Rattle.column.proofs.short.ShortCode.put.Given as goal
 
 abbrev pub invariant-loop-rest : goal.invariant-loop-rest

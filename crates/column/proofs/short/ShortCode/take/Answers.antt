@@ -1,8 +1,8 @@
-use Rattle.std.proofs.Common.{◌≡◌, ◌-◌, ◌≤◌, get_or, drop, arith, length-drop, pow_pos}
+use Rattle.std.proofs.Common.{◌≡◌, ◌≤◌, get_or, drop, arith, length-drop, pow_pos}
 use Rattle.std.proofs.lemmas.List.{get_or-drop}
 use Rattle.column.specs.Widths.{listed}
-use Rattle.column.specs.Choice.{chose}
-use Rattle.column.specs.Leb128.{front-got, form-fits, form-large, one-bad, one-got}
+use Rattle.column.proofs.Choice.{chose}
+use Rattle.column.proofs.Leb128.{front-got, form-fits, form-large, one-bad, one-got}
 use Rattle.column.proofs.short.ShortCode.take.Goals as goal
 use Rattle.column.proofs.short.ShortCode.take.Goals.{else-size-eq-LONGEST-via-then-size-eq-LONGEST+else-input-place-gt-TENTH, else-size-eq-LONGEST-via-else-size-eq-LONGEST}
 

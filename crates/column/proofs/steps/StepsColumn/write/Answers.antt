@@ -2,10 +2,11 @@ use Rattle.std.proofs.Common.{◌&&◌}
 use Rattle.std.proofs.lemmas.Bool.{and_parts}
 use Rattle.column.specs.Widths.{listed, below}
 use Rattle.column.specs.Steps.{differences, sums}
-use Rattle.column.specs.Choice.{chose}
-use Rattle.column.specs.WidthsLemmas.{below-decides, width-most}
-use Rattle.column.specs.Differences.{steps-undone}
-use Rattle.column.specs.Layers.{layer-written}
+use Rattle.column.proofs.Choice.{chose}
+use Rattle.column.proofs.Widths.{below-decides}
+use Rattle.column.specs.Laws.Listed.{width-most}
+use Rattle.column.specs.Laws.Steps.{steps-undone}
+use Rattle.column.proofs.Layers.{layer-written}
 use Rattle.column.proofs.steps.StepsColumn.write.Goals as goal
 
 pub subtract-requires : goal.subtract-requires

@@ -1,19 +1,18 @@
--- Kinds that put one value after another: the steps of both loops, and that they are lawful.
-use Rattle.std.specs.Prelude.{◌≡◌, ℕ, zero, suc, ◌+◌, ◌-◌, ◌^◌, ◌<◌, ◌≤◌, true, false, ◌&&◌, List, [], ◌∷◌, ◌++◌, length, take, drop, Ok, Err, Result, nat_le, slice_index, slice_set, refl}
-use Rattle.std.proofs.Common.{sym, ◌∙◌, ap, ap₂, subst, inl, inr, add_assoc, add-zero, arith}
+-- Kinds that put one value after another: the steps of both loops.
+use Rattle.std.specs.Prelude.{◌≡◌, ℕ, suc, ◌+◌, ◌-◌, ◌<◌, ◌≤◌, true, false, ◌&&◌, List, [], ◌∷◌, ◌++◌, length, take, drop, Ok, Err, Result, nat_le, slice_index, slice_set, refl}
+use Rattle.std.proofs.Common.{sym, ◌∙◌, ap, ap₂, subst, add_assoc, add-zero, arith}
 use Rattle.std.specs.List.{flat_map}
-use Rattle.std.proofs.lemmas.List.{append_assoc, append-nil, length-append, drop_at, drop-drop, at_drop_more, at_drop_all, take_more_set, take-take, length-drop, length-set, take_all}
-use Rattle.std.proofs.lemmas.Bool.{le-leb, lt-leb, cases_Bool}
-use Rattle.std.proofs.ByRecursion.{All-append, All-drop, All-from_get_or}
+use Rattle.std.proofs.lemmas.List.{append_assoc, append-nil, length-append, drop-drop, at_drop_more, at_drop_all, take_more_set, take-take, length-drop, length-set, take_all}
+use Rattle.std.proofs.lemmas.Bool.{le-leb, lt-leb}
+use Rattle.std.proofs.ByRecursion.{All-drop, All-from_get_or}
 use Rattle.column.specs.declared.fault.Cause.TheVariants.{Room, Short, Bad}
 use Rattle.column.specs.declared.fault.Fault.{Fault}
 use Rattle.column.specs.declared.coded.Taken.{Taken}
-use Rattle.column.specs.Widths.{listed, below, Below, Bytes}
+use Rattle.column.specs.Widths.{listed, below, Bytes}
 use Rattle.column.specs.Parsed.{Parsed, got, short, bad, fault, and_then, told, values_of}
-use Rattle.column.specs.Meaning.{Lawful, Yields}
 use Rattle.column.specs.Interface.{overlaid, writing, Written, reading}
 use Rattle.column.specs.Coded.{onto, each, coded, taken, Fitting, Coding}
-use Rattle.column.specs.Overlaid.{overlaid-nil, overlaid-append, length-overlaid, take-overlaid}
+use Rattle.column.proofs.Overlaid.{overlaid-nil, overlaid-append, length-overlaid, take-overlaid}
 
 -- ---- writing
 
@@ -131,39 +130,3 @@ reading-none code one layer w n input place i at values e h t le r refuses q is 
     let step : each (one w) (n - i) (drop at input) ≡ and_then (one w (drop at input)) (λ v size. onto (v ∷ []) size (each (one w) (n - (i + 1)) (drop size (drop at input)))) =
     ap (λ k. each (one w) k (drop at input)) (left n i h) in
     is ∙ told-on layer e (one w (drop at input)) (take i values) (at - place) _ refuses ∙ ap (told layer) (sym (ap (onto (take i values) (at - place)) step) ∙ sym r.0 ∙ sym (rw (le-leb place (length input) le, t) refl))
-
--- ---- the laws
-
-each-reads : {code : ℕ → ℕ → List ℕ} {one : ℕ → List ℕ → Parsed ℕ} → Coding code one → (w : ℕ) → listed w ≡ true → (vs rest : List ℕ) → Below w vs
-    → each (one w) (length vs) (flat_map (code w) vs ++ rest) ≡ got vs (length (flat_map (code w) vs))
-each-reads coding w l [] rest b = refl
-each-reads {code} {one} coding w l (v ∷ vs) rest b =
-    rw (append_assoc (code w v) (flat_map (code w) vs) rest, coding.reads w v (flat_map (code w) vs ++ rest) l b.0, drop_at (code w v) (flat_map (code w) vs ++ rest) _ refl, each-reads coding w l vs rest b.1, length-append (code w v) (flat_map (code w) vs))
-    refl
-
-each-bytes : {code : ℕ → ℕ → List ℕ} {one : ℕ → List ℕ → Parsed ℕ} → Coding code one → (w : ℕ) → listed w ≡ true → (vs : List ℕ) → Below w vs → Bytes (flat_map (code w) vs)
-each-bytes coding w l [] b = tt
-each-bytes {code} coding w l (v ∷ vs) b = All-append (λ x. x < 256) (code w v) (flat_map (code w) vs) (coding.bytes w v l b.0) (each-bytes coding w l vs b.1)
-
-each-yields : {code : ℕ → ℕ → List ℕ} {one : ℕ → List ℕ → Parsed ℕ} → Coding code one → (w : ℕ) → listed w ≡ true → (n : ℕ) (bs : List ℕ) → Bytes bs → Yields w n bs (each (one w) n bs)
-each-yields coding w l zero bs b = (refl, tt, omega arith)
-each-yields {code} {one} coding w l (suc n) bs b =
-    first (λ size. each-yields coding w l n (drop size bs) (All-drop (λ x. x < 256) size bs b)) (one w bs) (coding.fitting w bs l b)
-  where
-    later : (v size : ℕ) → v < 2 ^ w → size ≤ length bs → (p : Parsed (List ℕ)) → Yields w n (drop size bs) p → Yields w (suc n) bs (onto (v ∷ []) size p)
-    later v size f k (got vs used) y = (ap suc y.0, (f, y.1), omega (arith, length-drop size bs, y.2))
-    later v size f k (short depth) y = tt
-    later v size f k (bad depth) y = tt
-
-    first : ((size : ℕ) → Yields w n (drop size bs) (each (one w) n (drop size bs))) → (p : Parsed ℕ) → Fitting w bs p → Yields w (suc n) bs (and_then p (λ v size. onto (v ∷ []) size (each (one w) n (drop size bs))))
-    first more (got v size) f = later v size f.0 f.1 (each (one w) n (drop size bs)) (more size)
-    first more (short depth) f = tt
-    first more (bad depth) f = tt
-
-pub coded-lawful : {code : ℕ → ℕ → List ℕ} {one : ℕ → List ℕ → Parsed ℕ} → Coding code one → Lawful (coded code one)
-coded-lawful {code} {one} coding =
-    record { empty = λ w l. refl; reads = λ w vs rest l b. rw l (each-reads coding w l vs rest b); bytes = λ w vs l b. each-bytes coding w l vs b; yields = yields; unlisted = λ w n bs l. rw l refl }
-  where
-    yields : (w n : ℕ) (bs : List ℕ) → Bytes bs → Yields w n bs ((coded code one).parse w n bs)
-    yields w n bs b =
-        elim (cases_Bool (listed w)) [ inl l ↦ rw l (each-yields coding w l n bs b) | inr l ↦ rw l tt ]

@@ -1,5 +1,5 @@
 -- Lists with other elements from a place on.
-use Rattle.std.specs.Prelude.{◌≡◌, ℕ, ◌+◌, ◌-◌, ◌<◌, ◌≤◌, List, [], ◌∷◌, ◌++◌, length, take, drop, slice_set}
+use Rattle.std.specs.Prelude.{◌≡◌, ℕ, ◌+◌, ◌<◌, ◌≤◌, List, [], ◌∷◌, ◌++◌, length, take, drop, slice_set}
 use Rattle.std.proofs.Common.{sym, ◌∙◌, ap, add-zero, add-one, arith}
 use Rattle.std.proofs.lemmas.List.{append_assoc, take-append-drop, take-append-le, take-take, take_at, drop_at, drop-drop, length-append, length-take, length-take-le, length-drop, set_split}
 use Rattle.column.specs.Interface.{overlaid}

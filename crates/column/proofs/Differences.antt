@@ -1,13 +1,10 @@
--- Steps: differences and running sums undo each other, modulo the width.
-use Rattle.std.specs.Prelude.{◌≡◌, ℕ, suc, ◌+◌, ◌-◌, ◌*◌, ◌%◌, ◌^◌, ◌<◌, ◌≤◌, List, [], ◌∷◌, ◌++◌, length, take, drop, bit_and, slice_set, refl}
-use Rattle.std.proofs.Common.{sym, ◌∙◌, ap, mod-lt, mod-eq_of_lt, arith, pow_pos, pow-add}
-use Rattle.std.proofs.Math.Nat.{add-mod-mod, add-mod_right, add-mul-mod_self_left}
+-- Steps: one step on 64 bits, and the loops, which change a list in place.
+use Rattle.std.specs.Prelude.{◌≡◌, ℕ, suc, ◌+◌, ◌-◌, ◌*◌, ◌%◌, ◌^◌, ◌<◌, ◌≤◌, List, [], ◌∷◌, ◌++◌, length, take, drop, bit_and, slice_set}
+use Rattle.std.proofs.Common.{sym, ◌∙◌, ap, arith, pow_pos, pow-add}
+use Rattle.std.proofs.Math.Nat.{add-mul-mod_self_left}
 use Rattle.std.proofs.Math.Pow.{mod-mod-pow}
 use Rattle.std.proofs.lemmas.Nat.{and_mask}
 use Rattle.std.proofs.lemmas.List.{take_more_set, drop-set-lt, append_assoc, append-nil, take_all, drop_all}
-use Rattle.column.specs.Widths.{Below}
-use Rattle.column.specs.Layer.{Undone}
-use Rattle.column.specs.Steps.{differences, sums}
 
 -- ---- one step
 
@@ -27,33 +24,7 @@ subtracted w top h e v last b =
     let part : v + (2 ^ 64 - last) ≡ v + 2 ^ w - last + 2 ^ w * (2 ^ (64 - w) - 1) = omega (arith, whole, more) in
     added w top h e (v + (2 ^ 64 - last)) ∙ ap (λ n. n % 2 ^ w) part ∙ add-mul-mod_self_left (v + 2 ^ w - last) (2 ^ w) (2 ^ (64 - w) - 1)
 
--- ---- whole lists
-
-pub length-differences : (w last : ℕ) (vs : List ℕ) → length (differences w last vs) ≡ length vs
-length-differences w last [] = refl
-length-differences w last (v ∷ vs) = ap suc (length-differences w v vs)
-
-pub length-sums : (w last : ℕ) (ds : List ℕ) → length (sums w last ds) ≡ length ds
-length-sums w last [] = refl
-length-sums w last (d ∷ ds) = ap suc (length-sums w ((last + d) % 2 ^ w) ds)
-
-pub below-differences : (w last : ℕ) (vs : List ℕ) → Below w (differences w last vs)
-below-differences w last [] = tt
-below-differences w last (v ∷ vs) = (mod-lt (v + 2 ^ w - last) (pow_pos w), below-differences w v vs)
-
-below-sums : (w last : ℕ) (ds : List ℕ) → Below w (sums w last ds)
-below-sums w last [] = tt
-below-sums w last (d ∷ ds) = (mod-lt (last + d) (pow_pos w), below-sums w ((last + d) % 2 ^ w) ds)
-
-sums-differences : (w last : ℕ) (vs : List ℕ) → last < 2 ^ w → Below w vs → sums w last (differences w last vs) ≡ vs
-sums-differences w last [] h b = refl
-sums-differences w last (v ∷ vs) h b =
-    let part : last + (v + 2 ^ w - last) ≡ v + 2 ^ w = omega arith in
-    let here : (last + (v + 2 ^ w - last) % 2 ^ w) % 2 ^ w ≡ v =
-    add-mod-mod last (v + 2 ^ w - last) (2 ^ w) ∙ ap (λ n. n % 2 ^ w) part ∙ add-mod_right v (2 ^ w) ∙ mod-eq_of_lt b.0 in
-    ap (λ (n : ℕ). n ∷ sums w n (differences w v vs)) here ∙ ap (λ (xs : List ℕ). v ∷ xs) (sums-differences w v vs b.0 b.1)
-
--- ---- the loops, which change a list in place: what was changed, and what is left gives the whole list
+-- ---- the loops: what was changed, and what is left gives the whole list
 
 pub changed-more : (F G : List ℕ → List ℕ) (vs : List ℕ) (i d : ℕ) (all : List ℕ) → i < length vs → F (drop i vs) ≡ d ∷ G (drop (i + 1) vs)
     → take i vs ++ F (drop i vs) ≡ all → take (i + 1) (slice_set vs i d) ++ G (drop (i + 1) (slice_set vs i d)) ≡ all
@@ -67,9 +38,3 @@ changed-more F G vs i d all h e f =
 pub changed-all : (F : List ℕ → List ℕ) (vs : List ℕ) (i : ℕ) (all : List ℕ) → F [] ≡ [] → length vs ≤ i → take i vs ++ F (drop i vs) ≡ all → vs ≡ all
 changed-all F vs i all none h f =
     sym (ap (λ (xs : List ℕ). xs ++ F (drop i vs)) (take_all i vs h) ∙ ap (λ ys. vs ++ F ys) (drop_all i vs h) ∙ ap (λ (ys : List ℕ). vs ++ ys) none ∙ append-nil vs) ∙ f
-
--- ---- the layer
-
-pub steps-undone : Undone (λ w. differences w 0) (λ w. sums w 0)
-steps-undone =
-    record { empty = λ w. refl; as_long = λ w vs. length-differences w 0 vs; fits = λ w vs _. below-differences w 0 vs; undoes = λ w vs b. sums-differences w 0 vs (pow_pos w) b; back-as-long = λ w ds. length-sums w 0 ds; back_fits = λ w ds _. below-sums w 0 ds }

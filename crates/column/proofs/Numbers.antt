@@ -1,23 +1,10 @@
 -- Numbers as digits, the lowest first.
-use Rattle.std.specs.Prelude.{◌≡◌, ℕ, zero, suc, ◌+◌, ◌-◌, ◌*◌, ◌/◌, ◌%◌, ◌^◌, ◌<◌, ◌≤◌, List, [], ◌∷◌, length, take, drop, slice_index, slice_index_or, slice_set, refl}
+use Rattle.std.specs.Prelude.{◌≡◌, ℕ, zero, suc, ◌+◌, ◌-◌, ◌*◌, ◌/◌, ◌%◌, ◌^◌, ◌<◌, ◌≤◌, List, [], ◌∷◌, length, take, drop, slice_index, slice_index_or, slice_set}
 use Rattle.std.proofs.Common.{sym, ◌∙◌, ap, mul_comm, mul-le-mul_left, arith}
 use Rattle.std.proofs.lemmas.List.{drop_more, get_or-take, get_or-drop, length-take, length-drop}
-use Rattle.column.specs.Widths.{Bytes}
 use Rattle.column.specs.Interface.{overlaid}
 use Rattle.column.specs.Digits.{low, total}
-use Rattle.column.specs.Overlaid.{overlaid-more}
-
-pub length-low : (base k v : ℕ) → length (low base k v) ≡ k
-length-low base zero v = refl
-length-low base (suc k) v = ap suc (length-low base k (v / base))
-
-pub bytes_low : (k v : ℕ) → Bytes (low 256 k v)
-bytes_low zero v = tt
-bytes_low (suc k) v = (omega arith, bytes_low k (v / 256))
-
-pub total-low : (k v : ℕ) → v < 256 ^ k → total 256 (low 256 k v) ≡ v
-total-low zero v h = omega arith
-total-low (suc k) v h = omega (arith, total-low k (v / 256) (omega arith))
+use Rattle.column.proofs.Overlaid.{overlaid-more}
 
 pub total-small : (k : ℕ) (bs : List ℕ) → length bs ≤ k → total 256 bs < 256 ^ k
 total-small zero [] h = omega arith
