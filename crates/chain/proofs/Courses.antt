@@ -1,6 +1,6 @@
 -- What a walk sees, one record after another.
 use Rattle.std.proofs.Common.{◌≡◌, ℕ, zero, suc, ◌+◌, ◌<◌, ◌≤◌, ◌&&◌, ltb, ◌⊎◌, List, [], ◌∷◌, map, length, get_or, sym, refl, ap, ◌∙◌, inl, inr, ⊎_elim, arith}
-use Rattle.std.specs.List.{AllByRecursion as All}
+use Rattle.std.specs.List.{AllByRecursion}
 use Rattle.std.proofs.lemmas.List.{get_or-map, length-map}
 use Rattle.std.proofs.lemmas.Bool.{cond-true, cond-false, cond_both, lt-ltb, ltb-true, and_parts, le-ltb, and_from, and_left, and_right, cases_lt, cases_eq}
 use Rattle.chain.specs.declared.walks.Walk.{Walk}
@@ -70,16 +70,16 @@ pub length-course : (ns : List ℕ) (at : ℕ) → length (course ns at) ≤ len
 unfolding course
 length-course ns at = visited-few (length ns) ns at
 
-visited-within : (n : ℕ) (ns : List ℕ) (at : ℕ) → All (λ k. (0 < k) × (k < length ns)) (visited n ns at)
+visited-within : (n : ℕ) (ns : List ℕ) (at : ℕ) → AllByRecursion (λ k. (0 < k) × (k < length ns)) (visited n ns at)
 visited-within zero ns at = tt
 visited-within (suc n) ns at =
-    cond_both (ltb 0 at && ltb at (length ns)) _ _ (All (λ k. (0 < k) × (k < length ns)))
+    cond_both (ltb 0 at && ltb at (length ns)) _ _ (AllByRecursion (λ k. (0 < k) × (k < length ns)))
     (λ e. let b = and_parts (ltb 0 at) (ltb at (length ns)) e in
     ((ltb-true 0 at b.0, ltb-true at (length ns) b.1), visited-within n ns (onward at (get_or ns at 0))))
     (λ e. tt)
 
 -- each record that comes is one of the table, and not 0
-pub course-within : (ns : List ℕ) (at : ℕ) → All (λ k. (0 < k) × (k < length ns)) (course ns at)
+pub course-within : (ns : List ℕ) (at : ℕ) → AllByRecursion (λ k. (0 < k) × (k < length ns)) (course ns at)
 unfolding course
 course-within ns at = visited-within (length ns) ns at
 

@@ -1,12 +1,12 @@
 -- Chains under changes of the table.
 use Rattle.std.proofs.Common.{◌≡◌, ℕ, ◌<◌, ◌≤◌, cond, eqb, ◌⊎◌, List, [], ◌∷◌, ◌++◌, length, get_or, set, sym, refl, ap, ◌∙◌, subst, inl, inr, ⊎_elim, arith, length-set, get_or-set_other}
-use Rattle.std.specs.List.{AllByRecursion as All}
+use Rattle.std.specs.List.{AllByRecursion}
 use Rattle.std.proofs.lemmas.Bool.{cond-true, cond-false, eq-eqb, ne_eqb}
 use Rattle.chain.specs.Chains.{Runs, Out, last_of, appended}
 use Rattle.chain.proofs.Tables.{length-appended, getD-appended-place, getD-appended-last, getD-appended-other}
 
 -- each record of a chain is one of the table, and not 0
-pub runs-within : (ns : List ℕ) (head : ℕ) (is : List ℕ) → Runs ns head is → All (λ i. (0 < i) × (i < length ns)) is
+pub runs-within : (ns : List ℕ) (head : ℕ) (is : List ℕ) → Runs ns head is → AllByRecursion (λ i. (0 < i) × (i < length ns)) is
 runs-within ns head [] h = tt
 runs-within ns head (i ∷ is) (e, p, q, o, r) = ((p, q), runs-within ns (get_or ns i 0) is r)
 
@@ -16,12 +16,12 @@ runs-out-0 ns head [] h = tt
 runs-out-0 ns head (i ∷ is) (e, p, q, o, r) = (λ z. omega arith, runs-out-0 ns (get_or ns i 0) is r)
 
 -- what is above each record is none of them
-pub out-above : (k : ℕ) (is : List ℕ) → All (λ i. i < k) is → Out k is
+pub out-above : (k : ℕ) (is : List ℕ) → AllByRecursion (λ i. i < k) is → Out k is
 out-above k [] h = tt
 out-above k (i ∷ is) (l, h) = (λ e. omega arith, out-above k is h)
 
 -- a chain depends on its own records only
-pub runs_same : (ns ms : List ℕ) (head : ℕ) (is : List ℕ) → length ns ≤ length ms → All (λ i. get_or ms i 0 ≡ get_or ns i 0) is → Runs ns head is → Runs ms head is
+pub runs_same : (ns ms : List ℕ) (head : ℕ) (is : List ℕ) → length ns ≤ length ms → AllByRecursion (λ i. get_or ms i 0 ≡ get_or ns i 0) is → Runs ns head is → Runs ms head is
 runs_same ns ms head [] l same h = h
 runs_same ns ms head (i ∷ is) l (e, same) (a, p, q, o, r) =
     let P : ℕ → Type 0 = λ n. ((n ≡ 0) ⊎ (i < n)) × Runs ms n is in
@@ -32,12 +32,12 @@ runs_same ns ms head (i ∷ is) l (e, same) (a, p, q, o, r) =
 pub runs_other : (ns : List ℕ) (k n : ℕ) (head : ℕ) (is : List ℕ) → Out k is → Runs ns head is → Runs (set ns k n) head is
 runs_other ns k n head is out h = runs_same ns (set ns k n) head is (simp length-set (omega arith)) (same is out) h
   where
-    same : (js : List ℕ) → Out k js → All (λ i. get_or (set ns k n) i 0 ≡ get_or ns i 0) js
+    same : (js : List ℕ) → Out k js → AllByRecursion (λ i. get_or (set ns k n) i 0 ≡ get_or ns i 0) js
     same [] o = tt
     same (j ∷ js) (o, os) = (get_or-set_other ns k j n 0 o, same js os)
 
 -- the last of some records is one of them
-pub last-in : (P : ℕ → Type 0) (i : ℕ) (is : List ℕ) → All P (i ∷ is) → P (last_of (i ∷ is))
+pub last-in : (P : ℕ → Type 0) (i : ℕ) (is : List ℕ) → AllByRecursion P (i ∷ is) → P (last_of (i ∷ is))
 last-in P i [] h = h.0
 last-in P i (j ∷ is) h = last-in P j is h.1
 
@@ -77,7 +77,7 @@ last_out ns head (i ∷ is) other js h k ne = runs-out ns (last_of (i ∷ is)) (
 -- a chain that goes on from its last record to a new one
 grow : (ns ms : List ℕ) (last place : ℕ) → length ns ≤ length ms → 0 < place → place < length ms → get_or ms last 0 ≡ place → get_or ms place 0 ≡ 0
     → ((k : ℕ) → (k ≡ place → ⊥) → (k ≡ last → ⊥) → get_or ms k 0 ≡ get_or ns k 0)
-    → (head i : ℕ) (is : List ℕ) → Runs ns head (i ∷ is) → last_of (i ∷ is) ≡ last → All (λ k. k < place) (i ∷ is) → Runs ms head (i ∷ (is ++ place ∷ []))
+    → (head i : ℕ) (is : List ℕ) → Runs ns head (i ∷ is) → last_of (i ∷ is) ≡ last → AllByRecursion (λ k. k < place) (i ∷ is) → Runs ms head (i ∷ (is ++ place ∷ []))
 grow ns ms last place l p0 p1 at_last at_place same head i [] (e, p, q, o, r) g below =
     let b : i < place = below.0 in
     let n : get_or ms i 0 ≡ place = ap (λ k. get_or ms k 0) g ∙ at_last in
@@ -94,7 +94,7 @@ grow ns ms last place l p0 p1 at_last at_place same head i (j ∷ is) (e, p, q, 
     (e, p, omega arith, t.0, t.1)
 
 -- a chain with a record more: its last one names the new one, which ends it
-pub runs_append : (ns : List ℕ) (first last place : ℕ) (is : List ℕ) → 0 < place → place < length ns → Runs ns first is → last_of is ≡ last → All (λ i. i < place) is
+pub runs_append : (ns : List ℕ) (first last place : ℕ) (is : List ℕ) → 0 < place → place < length ns → Runs ns first is → last_of is ≡ last → AllByRecursion (λ i. i < place) is
     → Runs (appended (λ _ n. n) ns last place 0) (cond (eqb last 0) place first) (is ++ place ∷ [])
 runs_append ns first last place [] p q h g below =
     let ms = appended (λ _ n. n) ns last place 0 in
@@ -121,6 +121,6 @@ runs-beside ns last place head is h o p =
     let l = length-appended (λ _ n. n) ns last place 0 in
     runs_same ns (appended (λ _ n. n) ns last place 0) head is (omega arith) (same is o p) h
   where
-    same : (js : List ℕ) → Out last js → Out place js → All (λ i. get_or (appended (λ _ n. n) ns last place 0) i 0 ≡ get_or ns i 0) js
+    same : (js : List ℕ) → Out last js → Out place js → AllByRecursion (λ i. get_or (appended (λ _ n. n) ns last place 0) i 0 ≡ get_or ns i 0) js
     same [] o p = tt
     same (j ∷ js) (o, os) (p, ps) = (getD-appended-other (λ _ n. n) ns last place 0 j 0 p o, same js os ps)

@@ -1,7 +1,8 @@
 //! Chains: records of a table, each with the index of the next one; record 0 is no record, and ends every chain.
+#![tactic(auto)]
 
 ghost use Rattle.std.specs.Prelude.{◌≡◌, ℕ, ◌<◌, List, [], ◌∷◌, ◌++◌, map, length, IfOk, if◌then◌else◌, Ok, Err};
-ghost use Rattle.std.specs.List.{AllByRecursion as All};
+ghost use Rattle.std.specs.List.{AllByRecursion};
 ghost use Rattle.chain.specs.declared.Fault.TheVariants.{Outside};
 ghost use Rattle.chain.specs.Chains.{Runs, Out, last_of, within, longer, appended};
 ghost use Rattle.chain.specs.Walks.{table_of, place_of};
@@ -58,17 +59,17 @@ pub fn append<R: Linked>(
     table: &mut [R],
     chain: Chain,
     place: usize,
-    record: R,
+    fresh: R,
 ) -> Result<Chain, Fault>
     ensures answer { result ≡ (if within (length table.old) chain place then Ok (longer chain place) else Err Outside) }
-    ensures table { table.new ≡ (if within (length table.old) chain place then appended R.Linked.withNext table.old chain.last place «record» else table.old) }
-    ensures longer { IfOk result (λ c. (is : List ℕ) → Runs (map R.Linked.nextOf table.old) chain.first is → last_of is ≡ chain.last → All (λ i. i < place) is → Runs (map R.Linked.nextOf table.new) c.first (is ++ place ∷ [])) }
-    ensures others { (head : ℕ) (is : List ℕ) → Runs (map R.Linked.nextOf table.old) head is → Out chain.last is → Out place is → Runs (map R.Linked.nextOf table.new) head is }
+    ensures table { table.new ≡ (if within (length table.old) chain place then appended R.withNext table.old chain.last place fresh else table.old) }
+    ensures longer { IfOk result (λ c. (is : List ℕ) → Runs (map R.nextOf table.old) chain.first is → last_of is ≡ chain.last → AllByRecursion (λ i. i < place) is → Runs (map R.nextOf table.new) c.first (is ++ place ∷ [])) }
+    ensures others { (head : ℕ) (is : List ℕ) → Runs (map R.nextOf table.old) head is → Out chain.last is → Out place is → Runs (map R.nextOf table.new) head is }
 {
     if place == 0 || place >= table.len() || chain.last >= table.len() {
         return Err(Fault::Outside);
     }
-    let mut end = record;
+    let mut end = fresh;
     end.link(0);
     table[place] = end;
     if chain.last == 0 {

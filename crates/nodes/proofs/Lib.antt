@@ -1,7 +1,10 @@
 pub mod Kin
 pub mod PlacesOf
 pub mod Homes
+pub mod Families
 pub mod Threading
 pub mod Stacked
 pub mod Placing
+pub mod Aiming
 pub mod Seeking
+pub mod Refill

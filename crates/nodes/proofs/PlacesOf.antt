@@ -1,6 +1,6 @@
 -- The places of a list: of those elements that pass a test.
 use Rattle.std.proofs.Common.{◌≡◌, ℕ, zero, suc, ◌+◌, ◌-◌, ◌<◌, ◌≤◌, Bool, true, false, cond, List, [], ◌∷◌, ◌++◌, length, get_or, sym, refl, ap, ◌∙◌, subst, add-zero, arith}
-use Rattle.std.specs.List.{AllByRecursion as All}
+use Rattle.std.specs.List.{AllByRecursion}
 use Rattle.std.proofs.lemmas.Bool.{cond_both}
 use Rattle.chain.specs.Chains.{last_of}
 use Rattle.chain.proofs.Links.{last-in}
@@ -8,14 +8,14 @@ use Rattle.nodes.specs.Homes.{places}
 
 -- What holds of the place of each element that passes the test holds of each of the places.
 pub places-all : {X : Type 0} (P : ℕ → Type 0) (test : X → Bool) (i : ℕ) (xs : List X) (d : X)
-    → ((j : ℕ) → j < length xs → test (get_or xs j d) ≡ true → P (i + j)) → All P (places test i xs)
+    → ((j : ℕ) → j < length xs → test (get_or xs j d) ≡ true → P (i + j)) → AllByRecursion P (places test i xs)
 places-all P test i [] d h = tt
 places-all P test i (x ∷ xs) d h =
-    let rest : All P (places test (suc i) xs) = places-all P test (suc i) xs d (λ j l e. let q : i + suc j ≡ suc i + j = omega arith in subst P q (h (suc j) (omega arith) e)) in
-    cond_both (test x) (i ∷ places test (suc i) xs) (places test (suc i) xs) (All P) (λ e. (subst P (add-zero i) (h 0 (omega arith) e), rest)) (λ e. rest)
+    let rest : AllByRecursion P (places test (suc i) xs) = places-all P test (suc i) xs d (λ j l e. let q : i + suc j ≡ suc i + j = omega arith in subst P q (h (suc j) (omega arith) e)) in
+    cond_both (test x) (i ∷ places test (suc i) xs) (places test (suc i) xs) (AllByRecursion P) (λ e. (subst P (add-zero i) (h 0 (omega arith) e), rest)) (λ e. rest)
 
 -- What holds of each of the places holds of the place of each element that passes the test.
-pub places-has : {X : Type 0} (P : ℕ → Type 0) (test : X → Bool) (i : ℕ) (xs : List X) (d : X) → All P (places test i xs)
+pub places-has : {X : Type 0} (P : ℕ → Type 0) (test : X → Bool) (i : ℕ) (xs : List X) (d : X) → AllByRecursion P (places test i xs)
     → (j : ℕ) → j < length xs → test (get_or xs j d) ≡ true → P (i + j)
 places-has P test i [] d h j l e = absurd (omega arith)
 places-has P test i (x ∷ xs) d h zero l e = subst P (sym (add-zero i)) (rw e at h).0
@@ -23,24 +23,24 @@ places-has P test i (x ∷ xs) d h (suc j) l e =
     let q : suc i + j ≡ i + suc j = omega arith in
     subst P q (places-has P test (suc i) xs d (go (test x) h) j (omega arith) e)
   where
-    go : (b : Bool) → All P (cond b (i ∷ places test (suc i) xs) (places test (suc i) xs)) → All P (places test (suc i) xs)
+    go : (b : Bool) → AllByRecursion P (cond b (i ∷ places test (suc i) xs) (places test (suc i) xs)) → AllByRecursion P (places test (suc i) xs)
     go true k = k.1
     go false k = k
 
 -- A place lies in the list, counted from i on.
-pub places-within : {X : Type 0} (test : X → Bool) (i : ℕ) (xs : List X) → All (λ k. (i ≤ k) × (k < i + length xs)) (places test i xs)
+pub places-within : {X : Type 0} (test : X → Bool) (i : ℕ) (xs : List X) → AllByRecursion (λ k. (i ≤ k) × (k < i + length xs)) (places test i xs)
 places-within test i [] = tt
 places-within test i (x ∷ xs) = places-all (λ k. (i ≤ k) × (k < i + length (x ∷ xs))) test i (x ∷ xs) x (λ j l e. (omega arith, omega arith))
 
 -- What stands at a place passes the test.
-pub places-pass : {X : Type 0} (test : X → Bool) (i : ℕ) (xs : List X) (d : X) → All (λ k. test (get_or xs (k - i) d) ≡ true) (places test i xs)
+pub places-pass : {X : Type 0} (test : X → Bool) (i : ℕ) (xs : List X) (d : X) → AllByRecursion (λ k. test (get_or xs (k - i) d) ≡ true) (places test i xs)
 places-pass test i xs d = places-all (λ k. test (get_or xs (k - i) d) ≡ true) test i xs d (λ j l e. let q : (i + j) - i ≡ j = omega arith in rw q e)
 
 -- No place is there where no element passes the test.
 pub places-none : {X : Type 0} (test : X → Bool) (i : ℕ) (xs : List X) (d : X) → ((j : ℕ) → j < length xs → test (get_or xs j d) ≡ true → ⊥) → places test i xs ≡ []
 places-none test i xs d h = go (places test i xs) (places-all (λ k. ⊥) test i xs d h)
   where
-    go : (is : List ℕ) → All (λ k. ⊥) is → is ≡ []
+    go : (is : List ℕ) → AllByRecursion (λ k. ⊥) is → is ≡ []
     go [] k = refl
     go (k ∷ ks) (b, bs) = absurd b
 
@@ -65,6 +65,6 @@ places-snoc test i xs x = places-append test i xs (x ∷ [])
 pub places-last : {X : Type 0} (test : X → Bool) (i : ℕ) (xs : List X) → 0 < i + length xs → last_of (places test i xs) < i + length xs
 places-last test i xs p = go (places test i xs) (places-within test i xs)
   where
-    go : (is : List ℕ) → All (λ k. (i ≤ k) × (k < i + length xs)) is → last_of is < i + length xs
+    go : (is : List ℕ) → AllByRecursion (λ k. (i ≤ k) × (k < i + length xs)) is → last_of is < i + length xs
     go [] h = p
     go (k ∷ ks) h = (last-in (λ k. (i ≤ k) × (k < i + length xs)) k ks h).1

@@ -1,13 +1,16 @@
 -- A search among the children of a record.
-use Rattle.std.proofs.Common.{◌≡◌, ℕ, ◌<◌, Bool, true, false, cond, eqb, ◌⊎◌, List, [], ◌∷◌, map, length, get_or, sym, refl, ap, ◌∙◌, inl, inr, one-add, arith}
-use Rattle.std.specs.List.{AllByRecursion as All}
+use Rattle.std.proofs.Common.{◌≡◌, ℕ, ◌+◌, ◌<◌, ◌≤◌, Bool, true, false, cond, eqb, ◌⊎◌, List, [], ◌∷◌, map, length, get_or, sym, refl, ap, ◌∙◌, subst, inl, inr, ⊎_elim, one-add, arith}
+use Rattle.std.specs.List.{AllByRecursion}
 use Rattle.std.proofs.lemmas.List.{get_or-map}
-use Rattle.std.proofs.lemmas.Bool.{cond-true, cond-false, eq-eqb, ne_eqb, eqb-true, eqb-false}
-use Rattle.document.specs.Nodes.{Path, root, ◌▹◌, Step}
-use Rattle.document.proofs.Paths.{same_true}
-use Rattle.nodes.specs.Homes.{node_of, Home, isChild, places}
+use Rattle.std.proofs.lemmas.Bool.{cond-true, cond-false, eq-eqb, ne_eqb, eqb-true, eqb-false, cases_lt}
+use Rattle.document.specs.Nodes.{Path, root, ◌▹◌, Step, alt}
+use Rattle.document.specs.Records.{times}
+use Rattle.document.proofs.Growth.{place_of}
+use Rattle.document.proofs.Paths.{same_self, same_true}
+use Rattle.nodes.specs.Homes.{node_of, Home, ordinal, isChild, places}
 use Rattle.nodes.specs.Children.{seek}
-use Rattle.nodes.proofs.PlacesOf.{places-all}
+use Rattle.nodes.proofs.PlacesOf.{places-all, places-has}
+use Rattle.nodes.proofs.Homes.{home-times}
 
 -- A record's index, as it stands among the indices.
 pub index_at : {R : Type 0} (indexOf : R → ℕ) (table : List R) (k : ℕ) (x : R) → k < length table → x ≡ get_or table k x → indexOf x ≡ get_or (map indexOf table) k 0
@@ -23,14 +26,14 @@ module _ (indices : List ℕ) (i k : ℕ) (all rest : List ℕ) (x : ℕ) (e : a
   seek-here z = sym (ap (seek indices i) e ∙ cond-true (eqb (get_or indices k 0) i) _ _ (eq-eqb _ i (sym at ∙ z)))
 
 -- The first of some records with an index: there is none and the answer is 0, or it is one of them and has the index.
-pub seek_found : (indices : List ℕ) (i : ℕ) (P : ℕ → Type 0) (ks : List ℕ) → All P ks
-    → ((seek indices i ks ≡ 0) × All (λ k. get_or indices k 0 ≡ i → ⊥) ks) ⊎ (P (seek indices i ks) × (get_or indices (seek indices i ks) 0 ≡ i))
+pub seek_found : (indices : List ℕ) (i : ℕ) (P : ℕ → Type 0) (ks : List ℕ) → AllByRecursion P ks
+    → ((seek indices i ks ≡ 0) × AllByRecursion (λ k. get_or indices k 0 ≡ i → ⊥) ks) ⊎ (P (seek indices i ks) × (get_or indices (seek indices i ks) 0 ≡ i))
 seek_found indices i P [] h = inl (refl, tt)
 seek_found indices i P (k ∷ ks) (p, ps) = go (eqb (get_or indices k 0) i) refl (seek_found indices i P ks ps)
   where
     go : (b : Bool) → eqb (get_or indices k 0) i ≡ b
-        → ((seek indices i ks ≡ 0) × All (λ k. get_or indices k 0 ≡ i → ⊥) ks) ⊎ (P (seek indices i ks) × (get_or indices (seek indices i ks) 0 ≡ i))
-        → ((cond b k (seek indices i ks) ≡ 0) × All (λ k. get_or indices k 0 ≡ i → ⊥) (k ∷ ks)) ⊎ (P (cond b k (seek indices i ks)) × (get_or indices (cond b k (seek indices i ks)) 0 ≡ i))
+        → ((seek indices i ks ≡ 0) × AllByRecursion (λ k. get_or indices k 0 ≡ i → ⊥) ks) ⊎ (P (seek indices i ks) × (get_or indices (seek indices i ks) 0 ≡ i))
+        → ((cond b k (seek indices i ks) ≡ 0) × AllByRecursion (λ k. get_or indices k 0 ≡ i → ⊥) (k ∷ ks)) ⊎ (P (cond b k (seek indices i ks)) × (get_or indices (cond b k (seek indices i ks)) 0 ≡ i))
     go true e ih = inr (p, eqb-true _ _ e)
     go false e (inl (z, a)) = inl (z, (eqb-false _ _ e, a))
     go false e (inr w) = inr w
@@ -41,6 +44,28 @@ child-step p root e = let z : ◌≡◌ {A = ℕ} 0 1 = cc in absurd (omega arit
 child-step p (q ▹ s) e = (s, ap (λ o. o ▹ s) (same_true q p e))
 
 -- Each record among a node's children is some child's.
-pub children-homes : (ns : List Path) (p : Path) → All (λ k. (s : Step) × Home ns k (p ▹ s)) (places (isChild p) 1 ns)
+pub children-homes : (ns : List Path) (p : Path) → AllByRecursion (λ k. (s : Step) × Home ns k (p ▹ s)) (places (isChild p) 1 ns)
 children-homes ns p = places-all (λ k. (s : Step) × Home ns k (p ▹ s)) (isChild p) 1 ns root
     (λ j l e. let (s, q) = child-step p (get_or ns j root) e in (s, (omega arith, omega arith, ap (λ k. node_of ns k) (one-add j) ∙ q)))
+
+-- The child of an index, where each record has the index of its node and all children have one:
+-- there is none and the answer is 0, or it is that child's record.
+pub seek-child : (indices : List ℕ) (ns : List Path) (p : Path) → ((r : ℕ) (q : Path) → Home ns r q → get_or indices r 0 ≡ ordinal q) → ((s : Step) → 1 ≤ times (p ▹ s) ns → (j : ℕ) × (s ≡ alt j))
+    → (i : ℕ) → ((times (p ▹ alt i) ns ≡ 0) × (seek indices i (places (isChild p) 1 ns) ≡ 0)) ⊎ Home ns (seek indices i (places (isChild p) 1 ns)) (p ▹ alt i)
+seek-child indices ns p indexed branches i = ⊎_elim (λ n. inl (missing n.1, n.0)) (λ f. inr (found f.0 f.1)) (seek_found indices i (λ k. (s : Step) × Home ns k (p ▹ s)) ks (children-homes ns p))
+  where
+    ks : List ℕ
+    ks = places (isChild p) 1 ns
+
+    missing : AllByRecursion (λ k. get_or indices k 0 ≡ i → ⊥) ks → times (p ▹ alt i) ns ≡ 0
+    missing a = ⊎_elim (λ l. omega arith) (λ l. absurd (none-such (place_of (p ▹ alt i) ns l))) (cases_lt (times (p ▹ alt i) ns) 1)
+      where
+        none-such : (j : ℕ) × (j < length ns) × (get_or ns j root ≡ p ▹ alt i) → ⊥
+        none-such (j, l, e) = places-has (λ k. get_or indices k 0 ≡ i → ⊥) (isChild p) 1 ns root a j l (rw e (same_self p))
+            (indexed (1 + j) (p ▹ alt i) (omega arith, omega arith, ap (λ k. node_of ns k) (one-add j) ∙ e))
+
+    found : (s : Step) × Home ns (seek indices i ks) (p ▹ s) → get_or indices (seek indices i ks) 0 ≡ i → Home ns (seek indices i ks) (p ▹ alt i)
+    found (s, there) e =
+        let (j, is) = branches s (home-times ns (seek indices i ks) (p ▹ s) there) in
+        let q : j ≡ i = sym (ap (λ (t : Step). ordinal (p ▹ t)) is) ∙ sym (indexed (seek indices i ks) (p ▹ s) there) ∙ e in
+        subst (λ (t : Step). Home ns (seek indices i ks) (p ▹ t)) (is ∙ ap {B = Step} alt q) there

@@ -1,15 +1,22 @@
 -- The open places as a list, and what a write or a place more or less does to it.
-use Rattle.std.proofs.Common.{◌≡◌, ℕ, zero, suc, ◌+◌, ◌-◌, ◌<◌, ◌≤◌, ◌≢◌, List, ◌∷◌, length, get_or, set, Option, unwrap_or, sym, refl, ap, ◌∙◌, add-one, arith, get_or-set_other, get_or-set_same}
+use Rattle.std.proofs.Common.{◌≡◌, ℕ, zero, suc, ◌+◌, ◌-◌, ◌<◌, ◌≤◌, ◌≢◌, List, [], ◌∷◌, length, get_or, set, Option, unwrap_or, sym, refl, ap, ◌∙◌, add-one, arith, get_or-set_other, get_or-set_same}
+use lib.Seq.{set-get_or}
 use Rattle.std.specs.declared.option.Option.TheVariants as options
 use Rattle.nodes.specs.declared.places.Place.{Place}
 use Rattle.nodes.specs.declared.places.State.{State}
 use Rattle.nodes.specs.declared.places.State.TheVariants.{Root, Items, Keys, Vals, Fields, Lone, One, Closing}
-use Rattle.nodes.specs.Stack.{waiting, levels, settled, rest, replaced}
+use Rattle.nodes.specs.declared.places.Places.{Places}
+use Rattle.nodes.specs.Stack.{waiting, levels, stack, top, turned, settled, opening, rest, replaced}
 
 -- the root's place gives way to the one that its value opens: as std has it
 pub replaced-or : (o : Option State) → unwrap_or o Closing ≡ replaced o
 replaced-or options.None = refl
 replaced-or (options.Some s) = refl
+
+-- the place that the document's value opens is the only one then
+pub replaced-settled : (o : Option State) → settled (replaced o ∷ []) ≡ settled (opening o [])
+replaced-settled options.None = refl
+replaced-settled (options.Some s) = refl
 
 -- a write past the open places
 pub levels_set : (ps : List Place) (d i : ℕ) (x : Place) → d ≤ i → levels (set ps i x) d ≡ levels ps d
@@ -30,10 +37,14 @@ pub levels_top : (ps : List Place) (d : ℕ) → 0 < d → levels ps d ≡ (get_
 levels_top ps d h = let e : d ≡ suc (d - 1) = omega arith in ap (levels ps) e
 
 -- another state of the innermost place
-pub levels-turn : (ps : List Place) (d : ℕ) (s : State) → 0 < d → d ≤ length ps → levels (set ps (d - 1) (waiting s)) d ≡ s ∷ rest (levels ps d)
-levels-turn ps d s h l =
-    let e : d ≡ (d - 1) + 1 = omega arith in
-    ap (levels (set ps (d - 1) (waiting s))) e ∙ levels_push ps (d - 1) s (omega arith) ∙ ap (λ ss. s ∷ ss) (sym (ap rest (levels_top ps d h)))
+pub stack-turned : (p : Places) (s : State) → 0 < p.depth → p.depth ≤ length p.table → stack (turned p s) ≡ s ∷ rest (stack p)
+stack-turned p s h l =
+    let e : p.depth ≡ (p.depth - 1) + 1 = omega arith in
+    ap (levels (turned p s).table) e ∙ levels_push p.table (p.depth - 1) s (omega arith) ∙ ap (λ ss. s ∷ ss) (sym (ap rest (levels_top p.table p.depth h)))
+
+-- the state that it has: no change
+pub turned-same : (p : Places) → turned p (top p) ≡ p
+turned-same p = ap (λ (ps : List Place). record { table = ps; depth = p.depth }) (set-get_or p.table (p.depth - 1) (waiting Root))
 
 -- a place that does not close stays
 pub stays : (s : State) (ss : List State) → s ≢ Closing → settled (s ∷ ss) ≡ s ∷ ss

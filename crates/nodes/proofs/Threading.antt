@@ -1,6 +1,6 @@
 -- Chains through the places of a list: what appending one element more does to each.
 use Rattle.std.proofs.Common.{◌≡◌, ℕ, ◌+◌, ◌-◌, ◌<◌, ◌≤◌, Bool, true, false, cond, ◌⊎◌, List, [], ◌∷◌, ◌++◌, length, get_or, sym, refl, ap, ◌∙◌, subst, inl, inr, ⊎_elim, arith}
-use Rattle.std.specs.List.{AllByRecursion as All}
+use Rattle.std.specs.List.{AllByRecursion}
 use Rattle.std.proofs.lemmas.List.{append-nil}
 use Rattle.std.proofs.ByRecursion.{All-weaker}
 use Rattle.std.proofs.lemmas.Bool.{cases_eq}
@@ -19,7 +19,7 @@ module _ {X : Type 0} (test : X → Bool) where
   places-skip i xs x e = places-snoc test i xs x ∙ ap (λ b. places test i xs ++ cond b ((i + length xs) ∷ []) []) e ∙ append-nil (places test i xs)
 
   -- each is the place of an element that passes
-  places-in : (i : ℕ) (xs : List X) (d : X) → All (λ k. (i ≤ k) × (k < i + length xs) × (test (get_or xs (k - i) d) ≡ true)) (places test i xs)
+  places-in : (i : ℕ) (xs : List X) (d : X) → AllByRecursion (λ k. (i ≤ k) × (k < i + length xs) × (test (get_or xs (k - i) d) ≡ true)) (places test i xs)
   places-in i xs d =
       places-all (λ k. (i ≤ k) × (k < i + length xs) × (test (get_or xs (k - i) d) ≡ true)) test i xs d
       (λ j h e. let n : (i + j) - i ≡ j = omega arith in (omega arith, omega arith, ap (λ k. test (get_or xs k d)) n ∙ e))
@@ -28,14 +28,14 @@ module _ {X : Type 0} (test : X → Bool) where
   last-in : (i : ℕ) (xs : List X) (d : X) → (last_of (places test i xs) ≡ 0) ⊎ ((i ≤ last_of (places test i xs)) × (last_of (places test i xs) < i + length xs) × (test (get_or xs (last_of (places test i xs) - i) d) ≡ true))
   last-in i xs d = go (places test i xs) (places-in i xs d)
     where
-      go : (is : List ℕ) → All (λ k. (i ≤ k) × (k < i + length xs) × (test (get_or xs (k - i) d) ≡ true)) is
+      go : (is : List ℕ) → AllByRecursion (λ k. (i ≤ k) × (k < i + length xs) × (test (get_or xs (k - i) d) ≡ true)) is
           → (last_of is ≡ 0) ⊎ ((i ≤ last_of is) × (last_of is < i + length xs) × (test (get_or xs (last_of is - i) d) ≡ true))
       go [] h = inl refl
       go (k ∷ []) h = inr h.0
       go (k ∷ (j ∷ is)) h = go (j ∷ is) h.1
 
   -- all lie before the end
-  below : (i : ℕ) (xs : List X) → All (λ k. k < i + length xs) (places test i xs)
+  below : (i : ℕ) (xs : List X) → AllByRecursion (λ k. k < i + length xs) (places test i xs)
   below i xs = All-weaker (λ k. (i ≤ k) × (k < i + length xs)) (λ k. k < i + length xs) (λ k h. h.1) (places test i xs) (places-within test i xs)
 
 -- a chain through the places of those that pass gets the new element's place
@@ -43,7 +43,7 @@ pub threads-on : {X : Type 0} (test : X → Bool) (nexts : List ℕ) (c : Chain)
     → Threads nexts c (places test 1 xs) → Threads (appended (λ _ n. n) nexts c.last place 0) (longer c place) (places test 1 (xs ++ x ∷ []))
 threads-on test nexts c xs x place e l pass (runs, last) =
     let is = places-on test 1 xs x pass ∙ ap (λ k. places test 1 xs ++ k ∷ []) (sym e) in
-    let before = subst (λ n. All (λ k. k < n) (places test 1 xs)) (sym e) (below test 1 xs) in
+    let before = subst (λ n. AllByRecursion (λ k. k < n) (places test 1 xs)) (sym e) (below test 1 xs) in
     let P : List ℕ → Type 0 = λ ks. Threads (appended (λ _ n. n) nexts c.last place 0) (longer c place) ks in
     subst P (sym is) (runs_append nexts c.first c.last place (places test 1 xs) (omega arith) l runs last before, last-push (places test 1 xs) place)
 
@@ -52,7 +52,7 @@ pub threads-off : {X : Type 0} (test other : X → Bool) → ((x : X) → test x
     → other x ≡ false → Threads nexts c (places test 1 xs) → Threads nexts o (places other 1 xs) → Threads (appended (λ _ n. n) nexts c.last place 0) o (places other 1 (xs ++ x ∷ []))
 threads-off test other apart nexts c o xs x d place e skip (runs, last) (runs', last') =
     let is = places-skip other 1 xs x skip in
-    let before = subst (λ n. All (λ k. k < n) (places other 1 xs)) (sym e) (below other 1 xs) in
+    let before = subst (λ n. AllByRecursion (λ k. k < n) (places other 1 xs)) (sym e) (below other 1 xs) in
     let P : List ℕ → Type 0 = λ ks. Threads (appended (λ _ n. n) nexts c.last place 0) o ks in
     subst P (sym is) (runs-beside nexts c.last place o.first (places other 1 xs) runs' (subst (λ k. Out k (places other 1 xs)) last out) (out-above place (places other 1 xs) before), last')
   where

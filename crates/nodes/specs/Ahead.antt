@@ -1,5 +1,5 @@
 -- What a place waits for, by its state.
-use Rattle.std.specs.Prelude.{ℕ, ◌+◌, ◌-◌, Bool, false, cond, ◌==◌}
+use Rattle.std.specs.Prelude.{ℕ, ◌+◌, ◌-◌, ◌<◌, ◌≤◌, Bool, false, cond, ◌==◌}
 use Rattle.nodes.specs.declared.places.State.{State}
 use Rattle.nodes.specs.declared.places.State.TheVariants.{Root, Items, Keys, Vals, Fields, Lone, One, Closing}
 
@@ -18,6 +18,17 @@ ahead (Fields r n) = cond (n == 0) nowhere (there r (Fields (r + 1) (n - 1)))
 ahead (Lone r n) = cond (n == 0) nowhere (there r (Lone r (n - 1)))
 ahead (One r) = there r Closing
 ahead Closing = nowhere
+
+-- the record where a place has its next value is in use
+abbrev pub Aims : ℕ → State → Type 0
+Aims used Root = Unit {0}
+Aims used (Items r n) = (0 < r) × (r < used)
+Aims used (Keys r n) = (0 < r) × (r < used)
+Aims used (Vals r n) = r + 1 < used
+Aims used (Fields r n) = 1 ≤ n → (0 < r) × (r < used)
+Aims used (Lone r n) = (0 < r) × (r < used)
+Aims used (One r) = (0 < r) × (r < used)
+Aims used Closing = Unit {0}
 
 -- whether `end` may close the place
 abbrev pub isFull : State → Bool

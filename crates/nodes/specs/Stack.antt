@@ -1,5 +1,5 @@
 -- The open places, as a list of states.
-use Rattle.std.specs.Prelude.{ℕ, zero, suc, ◌-◌, List, [], ◌∷◌, Option, slice_index_or}
+use Rattle.std.specs.Prelude.{ℕ, zero, suc, ◌-◌, List, [], ◌∷◌, Option, slice_index_or, slice_set}
 use Rattle.std.specs.declared.option.Option.TheVariants as options
 use Rattle.nodes.specs.declared.places.State.{State}
 use Rattle.nodes.specs.declared.places.State.TheVariants.{Root, Items, Keys, Vals, Fields, Lone, One, Closing}
@@ -22,6 +22,10 @@ stack p = levels p.table p.depth
 -- the innermost one's state
 abbrev pub top : Places → State
 top p = (slice_index_or p.table (p.depth - 1) (waiting Root)).state
+
+-- .. and the places with another one there
+abbrev pub turned : Places → State → Places
+turned p s = record { table = slice_set p.table (p.depth - 1) (waiting s); depth = p.depth }
 
 -- places close with their one value
 abbrev pub settled : List State → List State

@@ -6,7 +6,7 @@ ghost use Rattle.nodes.specs.declared.places.State.TheVariants.{Root as rootStat
 ghost use Rattle.nodes.specs.Stack.{stack, top, settled};
 
 /// At most so many places are open.
-const MOST_OPEN: usize = 32;
+pub const MOST_OPEN: usize = 32;
 
 /// What an open place waits for: the record of the next value (of the keys, where a map value is next), and how many are to come.
 #[derive(Clone, Copy)]

@@ -1,18 +1,21 @@
 -- A new writer stands for no call.
-use Rattle.std.proofs.Common.{◌≡◌, ℕ, cond, ltb, List, [], ◌∷◌, length, get_or, set, sym, refl, ap, ◌∙◌, inl, ⊎_elim, arith, get_or-set_same}
+use Rattle.std.proofs.Common.{◌≡◌, ℕ, cond, ltb, List, [], ◌∷◌, length, get_or, set, sym, refl, ap, ◌∙◌, subst, inl, ⊎_elim, arith, get_or-set_same}
 use Rattle.std.proofs.lemmas.List.{get_or_past}
 use Rattle.std.proofs.lemmas.Bool.{cases_lt, cond-true, cond-false, lt-ltb, le-ltb}
 use Rattle.document.specs.Nodes.{Path, root}
-use Rattle.ser.specs.declared.places.State.TheVariants as states
+use Rattle.document.specs.Places.{start}
+use Rattle.nodes.specs.declared.places.State.TheVariants as states
+use Rattle.nodes.specs.Stack.{stack}
+use Rattle.nodes.specs.Placed.{Open}
+use Rattle.nodes.specs.Homes.{Home, ordinal}
 use Rattle.ser.specs.declared.records.Node.{Node}
 use Rattle.ser.specs.declared.desk.Desk.{Desk}
 use Rattle.ser.specs.Moves.{blankNode, sheets, node}
-use Rattle.ser.specs.Held.{Home, ordinal}
 use Rattle.ser.specs.Standing.{Stands}
 
 -- a desk whose tables have the root's record alone, blank, and whose only open place is the root's
 pub begun : (d : Desk) → d.tables.used ≡ 2 → d.tables.taken ≡ 1 → d.tables.filled ≡ 0 → d.tables.marked ≡ 0 → node (sheets d.tables) 1 ≡ blankNode
-    → d.depth ≡ 1 → length d.places ≡ 32 → (get_or d.places 0 (record { state = states.Root })).state ≡ states.Root → Stands d []
+    → d.places.depth ≡ 1 → length d.places.table ≡ 32 → stack d.places ≡ states.Root ∷ [] → Stands d []
 begun d used taken filled marked blank depth long first =
     record {
       accepted = tt;
@@ -33,7 +36,7 @@ begun d used taken filled marked blank depth long first =
                   order = λ j l. absurd (omega arith);
                 };
           };
-      opens = rw (depth, first) (inl (refl, refl, refl));
+      opens = subst (λ ss. Open (root ∷ []) ss start) (sym first) (inl (refl, refl, refl));
       depth = omega arith;
       places = long;
     }

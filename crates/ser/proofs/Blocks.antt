@@ -1,9 +1,9 @@
 -- The children that a mark brings stand side by side, from the first child on.
-use Rattle.std.proofs.Common.{◌≡◌, ℕ, zero, suc, ◌+◌, ◌-◌, ◌<◌, ◌≤◌, Bool, true, false, cond, List, [], ◌∷◌, ◌++◌, length, get_or, sym, refl, ap, ◌∙◌, subst, append_assoc, arith, length-append, get_or-append-add}
-use Rattle.std.specs.List.{AllByRecursion as All}
+use Rattle.std.proofs.Common.{◌≡◌, ℕ, suc, ◌+◌, ◌<◌, Bool, true, false, cond, List, [], ◌∷◌, ◌++◌, length, get_or, sym, refl, ap, ◌∙◌, subst, append_assoc, arith, length-append, get_or-append-add}
+use Rattle.std.specs.List.{AllByRecursion}
 use Rattle.std.proofs.lemmas.List.{append-nil, get_or_append_left}
 use Rattle.chain.specs.Chains.{Runs}
-use Rattle.document.specs.Calls.{Value, kind, Kind}
+use Rattle.document.specs.Calls.{Value, kind}
 use Rattle.document.specs.Nodes.{Path, root, same}
 use Rattle.document.specs.Entries.{Entry, entry, at}
 use Rattle.document.specs.Tables.{takes, branchOf}
@@ -12,10 +12,11 @@ use Rattle.document.proofs.Paths.{same_true}
 use Rattle.document.proofs.Between.{at_on, at_off}
 use Rattle.document.proofs.Allotting.{length-brought}
 use Rattle.document.proofs.Growth.{nodes-snoc}
+use Rattle.nodes.specs.Homes.{node_of, Home, isChild, places}
+use Rattle.nodes.proofs.PlacesOf.{places-append}
+use Rattle.nodes.proofs.Homes.{home-more}
 use Rattle.ser.specs.Moves.{Sheets, node}
-use Rattle.ser.specs.Held.{node_of, Home, isChild, places, nodeNexts, Holds}
-use Rattle.ser.proofs.PlacesOf.{places-append}
-use Rattle.ser.proofs.Homes.{home-more}
+use Rattle.ser.specs.Held.{nodeNexts, Holds}
 use Rattle.ser.proofs.Growing.{places-none, childless, brought-kin}
 
 -- the first of some records, 0 where there is none
@@ -37,7 +38,7 @@ abbrev Blocks : List Entry → Type 0
 Blocks ts = (p : Path) → Block (nodesOf ts) p (head_of (places (isChild p) 1 (nodesOf ts))) (at p ts)
 
 -- the first child of a node that gets its mark
-head-brought : (p : Path) (i : ℕ) (xs ys : List Path) → All (λ x. isChild p x ≡ true) xs → 0 < length xs → head_of (places (isChild p) i (xs ++ ys)) ≡ i
+head-brought : (p : Path) (i : ℕ) (xs ys : List Path) → AllByRecursion (λ x. isChild p x ≡ true) xs → 0 < length xs → head_of (places (isChild p) i (xs ++ ys)) ≡ i
 head-brought p i [] ys h l = absurd (omega arith)
 head-brought p i (x ∷ xs) ys h l = ap (λ b. head_of (cond b (i ∷ places (isChild p) (suc i) (xs ++ ys)) (places (isChild p) (suc i) (xs ++ ys)))) h.0
 

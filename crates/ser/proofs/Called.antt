@@ -1,18 +1,22 @@
 -- A call: the step, the place that it opens, and the places settled.
-use Rattle.std.proofs.Common.{◌≡◌, ℕ, ◌+◌, ◌-◌, ◌<◌, ◌≤◌, Bool, true, false, cond, ◌&&◌, eqb, [], ◌∷◌, length, set, Ok, Err, Option, Result, refl, ap, ◌∙◌, arith, length-set}
+use Rattle.std.proofs.Common.{◌≡◌, ℕ, ◌+◌, ◌-◌, ◌<◌, ◌≤◌, Bool, true, false, cond, ◌&&◌, eqb, [], ◌∷◌, length, Ok, Err, Option, Result, suc, sym, refl, ap, ◌∙◌, arith, length-set}
 use Rattle.std.proofs.lemmas.Bool.Decides.{nat_tests}
 use Rattle.std.specs.declared.option.Option.TheVariants as options
 use Rattle.document.specs.declared.refusals.Refusal.{Refusal}
 use Rattle.document.specs.declared.refusals.Refusal.TheVariants as refusals
 use Rattle.document.specs.Calls.{scalar, text, unit, none, some, variant, seq, map, tuple, Call, val, end}
-use Rattle.ser.specs.declared.places.State.{State}
-use Rattle.ser.specs.declared.places.State.TheVariants.{Root, Items, Keys, Vals, Fields, Lone, One, Closing}
+use Rattle.nodes.specs.declared.places.State.{State}
+use Rattle.nodes.specs.declared.places.State.TheVariants.{Root, Items, Keys, Vals, Fields, Lone, One, Closing}
+use Rattle.nodes.specs.declared.places.Places.{Places}
+use Rattle.nodes.specs.Ahead.{Ahead, nowhere, there, ahead, isFull}
+use Rattle.nodes.specs.Stack.{waiting, stack, top, settled, opening, rest}
+use Rattle.nodes.proofs.Stacked.{stack-turned, turned-same}
+use Rattle.nodes.proofs.Placing.{length-levels}
 use Rattle.ser.specs.declared.desk.Desk.{Desk}
 use Rattle.ser.specs.Brings.{branching, isOpening}
 use Rattle.ser.specs.Moves.{Sheets, sheets, branchIn, entered, enteredChild}
 use Rattle.ser.specs.Tables.{weighedAt}
-use Rattle.ser.specs.Steps.{openedAt, entered_at, answering, entering, Outcome, declined, moved, counted, begun, valued, onValue, isFull, outcome, stack, top, isDeep, settled, opening, rest, Took, Did, calling}
-use Rattle.ser.proofs.Stacked.{stack-turn}
+use Rattle.ser.specs.Steps.{openedAt, entered_at, answering, entering, Outcome, declined, moved, counted, begun, valued, onAhead, onValue, outcome, isDeep, asLent, Took, Did, calling}
 
 -- of d open places, what is opened is at most the 32nd
 abbrev pub Roomy : ℕ → Outcome → Type 0
@@ -50,10 +54,10 @@ pub begun-roomy : (d : ℕ) (T : Sheets) (x : Result (Option State) Refusal) →
 begun-roomy d T (Ok opened) h = omega arith
 begun-roomy d T (Err e) h = tt
 
--- a refusal, unless something is left
-pub left-roomy : (d : ℕ) (b : Bool) (o : Outcome) → Roomy d o → Roomy d (cond b (declined refusals.Count) o)
-left-roomy d true o h = tt
-left-roomy d false o h = h
+-- a value, by what the place waits for
+pub ahead-roomy : (d : ℕ) (deep : Bool) (T : Sheets) (a : Ahead) (c : Call) → d ≤ 32 → deep ≡ (isOpening c && eqb d 32) → Roomy d (onAhead deep T a c)
+ahead-roomy d deep T nowhere c h e = tt
+ahead-roomy d deep T (there r s) c h e = valued-roomy d deep T r s c h e
 
 -- an `end` opens nothing
 pub end-roomy : (d : ℕ) (b : Bool) (T : Sheets) → d ≤ 32 → Roomy d (cond b (moved Closing T options.None) (declined refusals.Count))
@@ -63,55 +67,70 @@ end-roomy d false T h = tt
 -- a value in each state
 pub onValue-roomy : (d : ℕ) (deep : Bool) (T : Sheets) (s : State) (c : Call) → d ≤ 32 → deep ≡ (isOpening c && eqb d 32) → Roomy d (onValue deep T s c)
 onValue-roomy d deep T Root c h e = begun-roomy d (entered_at T 1 c) (entering T 1 c) h
-onValue-roomy d deep T (Items r n) c h e = left-roomy d (eqb n 0) _ (valued-roomy d deep T r (Items r (n - 1)) c h e)
-onValue-roomy d deep T (Keys r n) c h e = left-roomy d (eqb n 0) _ (valued-roomy d deep T r (Vals r (n - 1)) c h e)
-onValue-roomy d deep T (Vals r n) c h e = valued-roomy d deep T (r + 1) (Keys r n) c h e
-onValue-roomy d deep T (Fields r n) c h e = left-roomy d (eqb n 0) _ (valued-roomy d deep T r (Fields (r + 1) (n - 1)) c h e)
-onValue-roomy d deep T (Lone r n) c h e = left-roomy d (eqb n 0) _ (valued-roomy d deep T r (Lone r (n - 1)) c h e)
-onValue-roomy d deep T (One r) c h e = valued-roomy d deep T r Closing c h e
-onValue-roomy d deep T Closing c h e = tt
+onValue-roomy d deep T (Items r n) c h e = ahead-roomy d deep T (ahead (Items r n)) c h e
+onValue-roomy d deep T (Keys r n) c h e = ahead-roomy d deep T (ahead (Keys r n)) c h e
+onValue-roomy d deep T (Vals r n) c h e = ahead-roomy d deep T (ahead (Vals r n)) c h e
+onValue-roomy d deep T (Fields r n) c h e = ahead-roomy d deep T (ahead (Fields r n)) c h e
+onValue-roomy d deep T (Lone r n) c h e = ahead-roomy d deep T (ahead (Lone r n)) c h e
+onValue-roomy d deep T (One r) c h e = ahead-roomy d deep T (ahead (One r)) c h e
+onValue-roomy d deep T Closing c h e = ahead-roomy d deep T (ahead Closing) c h e
 
 -- a call in each state
 pub outcome-roomy : (d : ℕ) (deep : Bool) (T : Sheets) (s : State) (c : Call) → d ≤ 32 → deep ≡ (isOpening c && eqb d 32) → Roomy d (outcome deep T s c)
 outcome-roomy d deep T s (val v) h e = onValue-roomy d deep T s (val v) h e
 outcome-roomy d deep T s end h e = end-roomy d (isFull s) T h
 
+-- a place that is opened is one more
+pub opened-depth : (o : Option State) (more taken : Places) → stack more ≡ opening o (stack taken) → more.depth ≡ length (opening o []) + taken.depth
+opened-depth options.None more taken e = omega (arith, sym (length-levels more.table more.depth) ∙ ap length e ∙ length-levels taken.table taken.depth)
+opened-depth (options.Some s) more taken e = omega (arith, sym (length-levels more.table more.depth) ∙ ap length e ∙ ap suc (length-levels taken.table taken.depth))
+
+-- a step that was refused left the desk as it was
+unmoved : (d : Desk) → asLent d ≡ d
+unmoved d = ap (λ (q : Places). record { tables = d.tables; places = q }) (turned-same d.places)
+
+-- a refused step is a refused call
+pub did-refused : (old new : Desk) (e : Refusal) (o : Outcome) → Took old new (Err e) o → Did old new (Err e) o
+did-refused old new e (declined f) t = (cc t.0, t.1 ∙ unmoved old)
+did-refused old new e (moved s T x) t = let z : ◌≡◌ {A = ℕ} 0 1 = cc t.0 in absurd (omega arith)
+
 -- what an accepted step leaves to open: there is room for it
-pub took-room : (old new : Desk) (opened : Option State) (o : Outcome) → Roomy old.depth o → Took old new (Ok opened) o → (length (opening opened []) + new.depth ≤ 32) × (length new.places ≡ length old.places)
+pub took-room : (old new : Desk) (opened : Option State) (o : Outcome) → Roomy old.places.depth o → Took old new (Ok opened) o → length (opening opened []) + new.places.depth ≤ 32
 took-room old new opened (declined e) h t = let z : ◌≡◌ {A = ℕ} 0 1 = cc t.0 in absurd (omega arith)
 took-room old new opened (moved s T x) h t =
     let e : opened ≡ x = cc t.0 in
     let n = ap (λ o. length (opening o [])) e in
-    (omega (arith, t.3), ap length t.2 ∙ simp length-set)
+    omega (arith, ap (λ (p : Places). p.depth) t.2)
 
 -- where a place is open, a call is the step's outcome
-pub called : (d : Desk) (deep : Bool) (c : Call) → 0 < d.depth → deep ≡ isDeep d c → outcome deep (sheets d.tables) (top d) c ≡ calling d c
-called d deep c h e =
-    ap (λ b. outcome b (sheets d.tables) (top d) c) e ∙ grind (arith, nat_tests)
+pub called : (d : Desk) (deep : Bool) (c : Call) → 0 < d.places.depth → deep ≡ isDeep d c → outcome deep (sheets d.tables) (top d.places) c ≡ calling d c
+called d deep c h e = ap (λ b. outcome b (sheets d.tables) (top d.places) c) e ∙ grind (arith, nat_tests)
 
 -- the step, the place opened and the places settled: what the call did
 pub did-call :
     (old taken more new : Desk) (opened : Option State) (o : Outcome)
-    → 0 < old.depth
-    → old.depth ≤ length old.places
+    → 0 < old.places.depth
+    → old.places.depth ≤ 32
+    → old.places.depth ≤ length old.places.table
+    → Roomy old.places.depth o
     → Took old taken (Ok opened) o
-    → stack more.places more.depth ≡ opening opened (stack taken.places taken.depth)
-    → more.depth ≤ 32
-    → length more.places ≡ length taken.places
+    → stack more.places ≡ opening opened (stack taken.places)
+    → length more.places.table ≡ length taken.places.table
     → more.tables ≡ taken.tables
-    → stack new.places new.depth ≡ settled (stack more.places more.depth)
-    → new.depth ≤ more.depth
-    → new.places ≡ more.places
+    → stack new.places ≡ settled (stack more.places)
+    → new.places.depth ≤ more.places.depth
+    → new.places.table ≡ more.places.table
     → new.tables ≡ more.tables
     → Did old new (Ok tt) o
-did-call old taken more new opened (declined e) p l t ms md ml mt ns nd np nt = let z : ◌≡◌ {A = ℕ} 0 1 = cc t.0 in absurd (omega arith)
-did-call old taken more new opened (moved s T x) p l t ms md ml mt ns nd np nt =
+did-call old taken more new opened (declined e) p h l room t ms ml mt ns nd np nt = let z : ◌≡◌ {A = ℕ} 0 1 = cc t.0 in absurd (omega arith)
+did-call old taken more new opened (moved s T x) p h l room t ms ml mt ns nd np nt =
     let e : opened ≡ x = cc t.0 in
-    let turned : stack taken.places taken.depth ≡ s ∷ rest (stack old.places old.depth) =
-    ap (λ ps. stack ps taken.depth) t.2 ∙ ap (stack (set old.places (old.depth - 1) (record { state = s }))) t.3 ∙ stack-turn old.places old.depth s p l in (
+    let turns : stack taken.places ≡ s ∷ rest (stack old.places) = ap stack t.2 ∙ stack-turned old.places s p l in
+    let same = ap (λ (q : Places). length q.table) t.2 ∙ length-set old.places.table (old.places.depth - 1) (waiting s) in
+    let depths = opened-depth opened more.places taken.places ms in (
       refl,
       ap sheets (nt ∙ mt) ∙ t.1,
-      ns ∙ ap settled (ms ∙ ap (opening opened) turned ∙ ap (λ y. opening y (s ∷ rest (stack old.places old.depth))) e),
-      omega arith,
-      ap length np ∙ ml ∙ ap length t.2 ∙ simp length-set,
+      ns ∙ ap settled (ms ∙ ap (opening opened) turns ∙ ap (λ y. opening y (s ∷ rest (stack old.places))) e),
+      omega (arith, depths, took-room old taken opened (moved s T x) room t),
+      ap length np ∙ ml ∙ same,
     )

@@ -1,5 +1,5 @@
 -- What a writer's own invariant gives its calls: that they are safe, and what write-out answers and leaves.
-use Rattle.std.proofs.Common.{◌≡◌, ℕ, ◌+◌, ◌-◌, ◌<◌, ◌≤◌, Bool, true, false, cond, eqb, List, [], ◌∷◌, length, Result, sym, refl, ap, ◌∙◌, subst, inl, inr, ⊎_elim, arith}
+use Rattle.std.proofs.Common.{◌≡◌, ℕ, ◌-◌, ◌<◌, Bool, false, eqb, List, [], ◌∷◌, length, Result, sym, refl, ap, ◌∙◌, ⊎_elim, arith}
 use mathlib.Core.Logic.{∥∥₁_elim}
 use mathlib.Core.HLevel.{×_prop}
 use native.Mathlib.Bridge.{le_prop}
@@ -15,7 +15,7 @@ use Rattle.document.specs.WriteOut.{noneOpen}
 use Rattle.document.proofs.Accepting.{accepted-held}
 use Rattle.document.proofs.Allotting.{length-nodes}
 use Rattle.ser.specs.declared.desk.Desk.{Desk}
-use Rattle.ser.specs.Moves.{Sheets, sheets}
+use Rattle.ser.specs.Moves.{sheets}
 use Rattle.ser.specs.Tables.{sizesOf}
 use Rattle.ser.specs.Safe.{Safe}
 use Rattle.ser.specs.Out.{image_of, OutSafe, begins, wrote, scratchAfter, outputAfter}
@@ -52,18 +52,18 @@ pub kept-ready : (d : Desk) → ∥ ((cs : List Call) × Stands d cs) ∥₁ →
 kept-ready d h = ∥∥₁_elim h (×_prop le_prop (out-safe-prop (sheets d.tables) (d.tables.taken - 1))) (λ s. ready d s.0 s.1)
 
 -- no place is open exactly where the document is complete
-complete-is : (d : Desk) (cs : List Call) → Stands d cs → eqb d.depth 0 ≡ noneOpen (placesAfter start cs)
+complete-is : (d : Desk) (cs : List Call) → Stands d cs → eqb d.places.depth 0 ≡ noneOpen (placesAfter start cs)
 complete-is d cs S = ⊎_elim
-    (λ e. eq-eqb d.depth 0 e ∙ sym (ap noneOpen ((open_done d cs S).0 e)))
-    (λ ne. ne_eqb d.depth 0 ne ∙ sym (some-open (placesAfter start cs) (λ e. ne ((open_done d cs S).1 e))))
-    (cases_eq d.depth 0)
+    (λ e. eq-eqb d.places.depth 0 e ∙ sym (ap noneOpen ((open_done d cs S).0 e)))
+    (λ ne. ne_eqb d.places.depth 0 ne ∙ sym (some-open (placesAfter start cs) (λ e. ne ((open_done d cs S).1 e))))
+    (cases_eq d.places.depth 0)
   where
     some-open : (fs : List Place) → (fs ≡ [] → ⊥) → noneOpen fs ≡ false
     some-open [] h = absurd (h refl)
     some-open (f ∷ fs) h = refl
 
 -- what write-out over the tables says of the calls
-pub writes : (col : Meaning) (d : Desk) (cs : List Call) (complete : Bool) (scratch scratch' output output' : List ℕ) (r : Result ℕ Refusal) → Stands d cs → complete ≡ eqb d.depth 0
+pub writes : (col : Meaning) (d : Desk) (cs : List Call) (complete : Bool) (scratch scratch' output output' : List ℕ) (r : Result ℕ Refusal) → Stands d cs → complete ≡ eqb d.places.depth 0
     → r ≡ wrote complete (d.tables.taken - 1) (image_of col (sheets d.tables)) scratch output
     → scratch' ≡ scratchAfter (begins complete (d.tables.taken - 1) scratch) scratch
     → output' ≡ outputAfter (begins complete (d.tables.taken - 1) scratch) (image_of col (sheets d.tables)) output

@@ -1,33 +1,33 @@
 -- The tables after a value: they hold one entry more.
-use Rattle.std.proofs.Common.{◌≡◌, ℕ, zero, suc, ◌+◌, ◌-◌, ◌<◌, ◌≤◌, Bool, true, false, cond, eqb, ltb, ◌≢◌, ◌⊎◌, List, [], ◌∷◌, ◌++◌, length, get_or, take, drop, sym, refl, ap, ◌∙◌, subst, inl, inr, ⊎_elim, append_assoc, arith, length-append}
+use Rattle.std.proofs.Common.{◌≡◌, ℕ, suc, ◌+◌, ◌<◌, ◌≤◌, Bool, true, false, cond, eqb, ◌≢◌, ◌⊎◌, List, [], ◌∷◌, ◌++◌, length, get_or, take, drop, sym, refl, ap, ◌∙◌, subst, inl, inr, ⊎_elim, append_assoc, arith, length-append}
 use lib.Seq.{take-length}
-use Rattle.std.specs.List.{AllByRecursion as All}
+use Rattle.std.specs.List.{AllByRecursion}
 use Rattle.std.specs.declared.option.Option.TheVariants as options
 use Rattle.std.proofs.lemmas.List.{append-nil}
 use Rattle.std.proofs.ByRecursion.{All-append}
-use Rattle.std.proofs.lemmas.Bool.{cond-true, cond-false, eq-eqb, ne_eqb, cases_Bool, both_ways}
+use Rattle.std.proofs.lemmas.Bool.{cond-true, cond-false, eq-eqb, ne_eqb, cases_Bool}
 use Rattle.chain.proofs.Tables.{length-adjust}
-use Rattle.document.specs.Calls.{total, extent, Value, scalar, text, unit, none, some, variant, seq, map, tuple, kind, Kind, SCALAR, TEXT, SEQ, MAP, ENUM, UNIT, TUPLE, cell, num, str, Call, val, end}
+use Rattle.document.specs.Calls.{total, extent, Value, scalar, text, unit, none, some, variant, seq, map, tuple, kind, Kind, SCALAR, TEXT, SEQ, MAP, ENUM, UNIT, TUPLE, cell, num, str}
 use Rattle.document.specs.Nodes.{Path, root, ◌▹◌, Step, alt, same}
 use Rattle.document.specs.Entries.{Entry, entry, at}
 use Rattle.document.specs.Bytes.{firsts}
-use Rattle.document.specs.Tables.{cells, takes, lettersOf, lengthCells, Branch, unbranched, branch, branchOf}
+use Rattle.document.specs.Tables.{cells, lettersOf, unbranched, branch, branchOf}
 use Rattle.document.specs.Records.{nodesOf, brought, marked, newChild, had, times}
 use Rattle.document.proofs.Paths.{same_self, same_true, not-child, total-append}
 use Rattle.document.proofs.Between.{isNil, at_on, at_off}
 use Rattle.document.proofs.Allotting.{once, length-brought}
 use Rattle.document.proofs.Growth.{nodes-snoc, firsts-snoc, firsts-fewer, firsts-few, unmarked-childless, branch-there, letters-more}
-use Rattle.ser.specs.declared.records.Mark.{Mark}
-use Rattle.ser.specs.declared.records.Mark.TheVariants as marks
-use Rattle.ser.specs.Marks.{markNumber, familyOf, mark_of, markAt}
+use Rattle.nodes.specs.declared.marks.Mark.{Mark}
+use Rattle.nodes.specs.Marks.{markNumber, familyOf, mark_of, markAt}
+use Rattle.nodes.specs.Homes.{Home, ordinal, isChild, places}
+use Rattle.nodes.proofs.Homes.{home-times}
+use Rattle.nodes.proofs.Homes.{home-more, home-new}
+use Rattle.nodes.proofs.Families.{family-takes, brought-at}
 use Rattle.ser.specs.Brings.{index_of}
-use Rattle.ser.specs.Moves.{Sheets, node, isFresh, withMark, withOrder, named, grown, touched, branched, branchThen}
-use Rattle.ser.specs.Held.{Home, ordinal, isChild, Slot, slotted, slots_of, is_held, places, Holding, Holds}
-use Rattle.ser.proofs.Found.{home-times}
-use Rattle.ser.proofs.Judging.{family-takes}
-use Rattle.ser.proofs.Homes.{home-more, home-new}
+use Rattle.ser.specs.Moves.{Sheets, node, isFresh, withMark, withOrder, named, touched, branched, branchThen}
+use Rattle.ser.specs.Held.{Slot, slotted, slots_of, is_held, Holding, Holds}
 use Rattle.ser.proofs.Moving.{Alone, put_at, put-there, put-elsewhere, names, spawns, stored, stores}
-use Rattle.ser.proofs.Growing.{alone_of, alone-front, places-none, childless, cellless, slots-snoc, brought-at, brought-kin, New, brothers, grows}
+use Rattle.ser.proofs.Growing.{alone_of, alone-front, places-none, childless, cellless, slots-snoc, brought-kin, New, brothers, grows}
 
 -- the same tables, with what they hold said otherwise
 pub recast : (T : Sheets) (ns ms : List Path) (mark mark' : Path → Mark) (sum sum' : Path → ℕ) (sl sl' : List Slot) (fs fs' : List Path) (letters letters' : ℕ)
@@ -171,10 +171,10 @@ module _ (T : Sheets) (ts : List Entry) (H : Holds T ts) (r : ℕ) (p : Path) (h
   nodes-new q e = append_assoc (nodesOf ts) (marked (at p ts) p (kind v)) (q ∷ []) ∙ sym (nodes-snoc ts (entry p v) ∙ ap (λ l. nodesOf ts ++ (marked (at p ts) p (kind v) ++ l)) e)
 
   -- the children that a mark brings are children
-  family-kin : All (λ x. isChild p x ≡ true) (marked (at p ts) p (kind v))
+  family-kin : AllByRecursion (λ x. isChild p x ≡ true) (marked (at p ts) p (kind v))
   family-kin = go (at p ts)
     where
-      go : (vs : List Value) → All (λ x. isChild p x ≡ true) (marked vs p (kind v))
+      go : (vs : List Value) → AllByRecursion (λ x. isChild p x ≡ true) (marked vs p (kind v))
       go [] = brought-kin p (kind v)
       go (u ∷ us) = tt
 
@@ -232,7 +232,7 @@ module _ (T : Sheets) (ts : List Entry) (H : Holds T ts) (r : ℕ) (p : Path) (h
                     (subst (λ x. Home (nodesOf (ts ++ entry p v ∷ [])) (1 + length (nodesOf ts ++ marked (at p ts) p (kind v))) (p ▹ alt x)) (only j e) (subst (λ ns. Home ns (1 + length (nodesOf ts ++ marked (at p ts) p (kind v))) (p ▹ alt i)) (nodes-new q one) (home-new (nodesOf ts ++ marked (at p ts) p (kind v)) q))),
               )
             where
-              off : (xs : List Path) → All (λ x. isChild p x ≡ true) xs → All (λ x. isChild (p ▹ alt i) x ≡ false) xs
+              off : (xs : List Path) → AllByRecursion (λ x. isChild p x ≡ true) xs → AllByRecursion (λ x. isChild (p ▹ alt i) x ≡ false) xs
               off [] a = tt
               off (x ∷ xs) a = (brothers p (p ▹ alt i) x (same_self p) a.0, off xs a.1)
 

@@ -1,23 +1,22 @@
 -- What the lists of records, cells and marks are with one entry more.
-use Rattle.std.proofs.Common.{◌≡◌, ℕ, zero, suc, ◌+◌, ◌-◌, ◌<◌, ◌≤◌, Bool, true, false, cond, ◌≢◌, ◌⊎◌, List, [], ◌∷◌, ◌++◌, length, get_or, take, drop, sym, refl, ap, ◌∙◌, subst, inl, inr, ⊎_elim, append_assoc, arith, length-append, take-append-drop, length-take, take-suc}
-use Rattle.std.specs.List.{AllByRecursion as All}
+use Rattle.std.proofs.Common.{◌≡◌, ℕ, zero, suc, ◌+◌, ◌<◌, ◌≤◌, Bool, true, false, cond, List, [], ◌∷◌, ◌++◌, length, get_or, take, drop, sym, refl, ap, ◌∙◌, subst, append_assoc, arith, length-append, take-append-drop, length-take, take-suc}
+use Rattle.std.specs.List.{AllByRecursion}
 use Rattle.std.proofs.lemmas.List.{append-nil}
 use Rattle.std.proofs.ByRecursion.{All-append, All-take}
-use Rattle.chain.specs.Chains.{appended}
-use Rattle.chain.proofs.Tables.{length-adjust, length-appended}
-use Rattle.document.specs.Calls.{Value, Kind, SCALAR, TEXT, SEQ, MAP, ENUM, UNIT, TUPLE}
-use Rattle.document.specs.Nodes.{Path, root, ◌▹◌, Step, elem, key, value, field, alt, same}
+use Rattle.document.specs.Calls.{Kind, SCALAR, TEXT, SEQ, MAP, ENUM, UNIT, TUPLE}
+use Rattle.document.specs.Nodes.{Path, root, ◌▹◌, Step, same}
 use Rattle.document.specs.Entries.{Entry, at}
-use Rattle.document.specs.Tables.{takes, cells}
+use Rattle.document.specs.Tables.{cells}
 use Rattle.document.specs.Records.{nodesOf, brought, fieldsFrom, times}
 use Rattle.document.proofs.Paths.{same_self, same_true, not-child}
 use Rattle.document.proofs.Allotting.{once}
 use Rattle.document.proofs.Growth.{unmarked-childless, one_place}
-use Rattle.ser.specs.declared.records.Mark.{Mark}
-use Rattle.ser.specs.declared.records.Mark.TheVariants.{Unmarked}
-use Rattle.ser.specs.Moves.{Sheets, node, child, withNext, withChildren, spawned, grown}
-use Rattle.ser.specs.Held.{Home, ordinal, isChild, Slot, holds, spare, slotted, slots_of, is_held, places, Holding}
-use Rattle.ser.proofs.Homes.{home-more, child-one}
+use Rattle.nodes.specs.declared.marks.Mark.{Mark}
+use Rattle.nodes.specs.declared.marks.Mark.TheVariants.{Unmarked}
+use Rattle.nodes.specs.Homes.{Home, ordinal, isChild, places}
+use Rattle.nodes.proofs.Homes.{home-more, child-one}
+use Rattle.ser.specs.Moves.{Sheets, grown}
+use Rattle.ser.specs.Held.{Slot, slotted, slots_of, is_held, Holding}
 use Rattle.ser.proofs.Moving.{Alone, spawns}
 use Rattle.ser.proofs.Moved.{length-grown}
 
@@ -34,15 +33,15 @@ pub alone-front : (ns ms : List Path) → Alone (ns ++ ms) → Alone ns
 alone-front ns ms alone i j p h k = alone i j p (home-more ns ms i p h) (home-more ns ms j p k)
 
 -- none passes, so there is no place
-pub places-none : {X : Type 0} (test : X → Bool) (i : ℕ) (xs : List X) → All (λ x. test x ≡ false) xs → places test i xs ≡ []
+pub places-none : {X : Type 0} (test : X → Bool) (i : ℕ) (xs : List X) → AllByRecursion (λ x. test x ≡ false) xs → places test i xs ≡ []
 places-none test i [] h = refl
 places-none test i (x ∷ xs) h = ap (λ b. cond b (i ∷ places test (suc i) xs) (places test (suc i) xs)) h.0 ∙ places-none test (suc i) xs h.1
 
 -- a node without a value has no child
-pub childless : (ts : List Entry) (q : Path) → at q ts ≡ [] → All (λ x. isChild q x ≡ false) (nodesOf ts)
+pub childless : (ts : List Entry) (q : Path) → at q ts ≡ [] → AllByRecursion (λ x. isChild q x ≡ false) (nodesOf ts)
 childless ts q e = go (nodesOf ts) (λ s. unmarked-childless ts q s e)
   where
-    go : (ns : List Path) → ((s : Step) → times (q ▹ s) ns ≡ 0) → All (λ x. isChild q x ≡ false) ns
+    go : (ns : List Path) → ((s : Step) → times (q ▹ s) ns ≡ 0) → AllByRecursion (λ x. isChild q x ≡ false) ns
     go [] h = tt
     go (root ∷ ns) h = (refl, go ns (λ s. omega (arith, h s)))
     go ((y ▹ t) ∷ ns) h = (not-its (same y q) refl, go ns (λ s. omega (arith, h s)))
@@ -55,16 +54,16 @@ childless ts q e = go (nodesOf ts) (λ s. unmarked-childless ts q s e)
         not-its false k = k
 
 -- a node without a value has no cell
-pub cellless : (ts : List Entry) (q : Path) → at q ts ≡ [] → All (λ z. is_held q z ≡ false) (slots_of ts)
+pub cellless : (ts : List Entry) (q : Path) → at q ts ≡ [] → AllByRecursion (λ z. is_held q z ≡ false) (slots_of ts)
 cellless [] q e = tt
 cellless (d ∷ ts) q e = go (same d.node q) refl (cellless ts q) e
   where
-    each-slot : (n : ℕ) → same d.node q ≡ false → All (λ z. is_held q z ≡ false) (slotted d n)
+    each-slot : (n : ℕ) → same d.node q ≡ false → AllByRecursion (λ z. is_held q z ≡ false) (slotted d n)
     each-slot zero k = tt
     each-slot (suc zero) k = (k, tt)
     each-slot (suc (suc n)) k = (k, (refl, tt))
 
-    go : (b : Bool) → same d.node q ≡ b → (at q ts ≡ [] → All (λ z. is_held q z ≡ false) (slots_of ts)) → cond b (d.said ∷ at q ts) (at q ts) ≡ [] → All (λ z. is_held q z ≡ false) (slotted d (cells d.said) ++ slots_of ts)
+    go : (b : Bool) → same d.node q ≡ b → (at q ts ≡ [] → AllByRecursion (λ z. is_held q z ≡ false) (slots_of ts)) → cond b (d.said ∷ at q ts) (at q ts) ≡ [] → AllByRecursion (λ z. is_held q z ≡ false) (slotted d (cells d.said) ++ slots_of ts)
     go true k ih h = absurd (nothing h)
       where
         nothing : d.said ∷ at q ts ≡ [] → ⊥
@@ -81,18 +80,12 @@ slots-snoc ts e = slots-more ts (e ∷ []) ∙ ap (λ l. slots_of ts ++ l) (appe
 
 -- ---- the children that a mark brings
 
--- so many fields, counted from i
-pub field_at : (p : Path) (i n j : ℕ) → j < n → get_or (fieldsFrom p i n) j root ≡ p ▹ field (i + j)
-field_at p i zero j h = absurd (omega arith)
-field_at p i (suc n) zero h = let e : i ≡ i + 0 = omega arith in ap (λ k. p ▹ field k) e
-field_at p i (suc n) (suc j) h = let e : suc i + j ≡ i + suc j = omega arith in field_at p (suc i) n j (omega arith) ∙ ap (λ k. p ▹ field k) e
-
 -- the children that a mark brings are children
-fields-kin : (p : Path) (i n : ℕ) → All (λ x. isChild p x ≡ true) (fieldsFrom p i n)
+fields-kin : (p : Path) (i n : ℕ) → AllByRecursion (λ x. isChild p x ≡ true) (fieldsFrom p i n)
 fields-kin p i zero = tt
 fields-kin p i (suc n) = (same_self p, fields-kin p (suc i) n)
 
-pub brought-kin : (p : Path) (K : Kind) → All (λ x. isChild p x ≡ true) (brought p K)
+pub brought-kin : (p : Path) (K : Kind) → AllByRecursion (λ x. isChild p x ≡ true) (brought p K)
 brought-kin p (SCALAR k) = tt
 brought-kin p TEXT = tt
 brought-kin p SEQ = (same_self p, tt)
@@ -100,19 +93,6 @@ brought-kin p MAP = (same_self p, (same_self p, tt))
 brought-kin p ENUM = tt
 brought-kin p UNIT = tt
 brought-kin p (TUPLE n) = fields-kin p 0 n
-
--- each is a child, in the order of the ordinals
-pub brought-at : (p : Path) (K : Kind) (j : ℕ) → j < takes K → (s : Step) × (get_or (brought p K) j root ≡ p ▹ s) × (ordinal (p ▹ s) ≡ j)
-brought-at p (SCALAR k) j h = absurd (omega arith)
-brought-at p TEXT j h = absurd (omega arith)
-brought-at p SEQ zero h = (elem, refl, refl)
-brought-at p SEQ (suc j) h = absurd (omega arith)
-brought-at p MAP zero h = (key, refl, refl)
-brought-at p MAP (suc zero) h = (value, refl, refl)
-brought-at p MAP (suc (suc j)) h = absurd (omega arith)
-brought-at p ENUM j h = absurd (omega arith)
-brought-at p UNIT j h = absurd (omega arith)
-brought-at p (TUPLE n) j h = let e : 0 + j ≡ j = omega arith in (field (0 + j), field_at p 0 n j h, e)
 
 -- ---- a new node
 
@@ -122,7 +102,7 @@ pub record New (p : Path) (ns : List Path) (mark : Path → Mark) (sum : Path �
   pub unmarked : mark q ≡ Unmarked
   pub empty : sum q ≡ 0
   pub cell-less : places (is_held q) 1 sl ≡ []
-  pub child-less : All (λ x. isChild q x ≡ false) ns
+  pub child-less : AllByRecursion (λ x. isChild q x ≡ false) ns
 
 -- a child's children are not its own brothers
 pub brothers : (p q x : Path) → isChild p q ≡ true → isChild p x ≡ true → isChild q x ≡ false
@@ -139,7 +119,7 @@ brothers p q x a b = go (isChild q x) refl
 -- new children get their records, one after another
 pub grows : (T : Sheets) (ns : List Path) (mark : Path → Mark) (sum : Path → ℕ) (sl : List Slot) (fs : List Path) (letters : ℕ) (r : ℕ) (p : Path) (qs : List Path)
     → Alone (ns ++ qs) → Holding T ns mark sum sl fs letters → Home ns r p
-    → ((j : ℕ) → j < length qs → New p ns mark sum sl (get_or qs j root) × (ordinal (get_or qs j root) ≡ j)) → All (λ x. isChild p x ≡ true) qs
+    → ((j : ℕ) → j < length qs → New p ns mark sum sl (get_or qs j root) × (ordinal (get_or qs j root) ≡ j)) → AllByRecursion (λ x. isChild p x ≡ true) qs
     → r < length T.nodes → length fs < T.used
     → (n : ℕ) → n ≤ length qs → T.used + n ≤ length T.nodes → Holding (grown r n T) (ns ++ take n qs) mark sum sl fs letters
 grows T ns mark sum sl fs letters r p qs alone H home new kin l few zero b c = subst (λ ms. Holding T ms mark sum sl fs letters) (sym (append-nil ns)) H
@@ -157,6 +137,6 @@ grows T ns mark sum sl fs letters r p qs alone H home new kin l few (suc n) b c 
     let more = spawns (grown r n T) (ns ++ take n qs) mark sum sl fs letters before h r p (home-more ns (take n qs) r p home) q n w.0.child w.1 w.0.unmarked w.0.empty w.0.cell-less none (omega (arith, size)) (omega (arith, size, used, len, long, H.used)) (omega (arith, used, len, long, H.used)) in
     subst (λ ms. Holding (grown r (suc n) T) ms mark sum sl fs letters) (append_assoc ns (take n qs) (q ∷ []) ∙ ap (λ l. ns ++ l) (sym (take-suc qs n root (omega arith)))) more
   where
-    off : (q : Path) → isChild p q ≡ true → (xs : List Path) → All (λ x. isChild p x ≡ true) xs → All (λ x. isChild q x ≡ false) xs
+    off : (q : Path) → isChild p q ≡ true → (xs : List Path) → AllByRecursion (λ x. isChild p x ≡ true) xs → AllByRecursion (λ x. isChild q x ≡ false) xs
     off q is [] a = tt
     off q is (x ∷ xs) a = (brothers p q x is a.0, off q is xs a.1)

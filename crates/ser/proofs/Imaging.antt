@@ -1,6 +1,6 @@
 -- The bytes that write-out puts are those of the document, where the tables hold what its calls leave; and it stays within its buffers.
 use Rattle.std.proofs.Common.{◌≡◌, ℕ, zero, suc, ◌+◌, ◌-◌, ◌^◌, ◌<◌, ◌≤◌, Bool, true, false, cond, ltb, List, [], ◌∷◌, ◌++◌, map as each, length, get_or, take, drop, sym, refl, ap, ◌∙◌, subst, ⊎_elim, add-zero, one-add, arith, take-suc}
-use Rattle.std.specs.List.{AllByRecursion as All}
+use Rattle.std.specs.List.{AllByRecursion}
 use Rattle.std.proofs.lemmas.List.{append-nil, append_assoc, map_push, take_all}
 use Rattle.std.proofs.ByRecursion.{All-weaker}
 use Rattle.std.proofs.lemmas.Bool.{cond-true, cond-false, cond_both, cases_Bool}
@@ -18,10 +18,11 @@ use Rattle.document.specs.Tables.{cells, cells_of}
 use Rattle.document.specs.WriteOut.{noneOpen, writeOut}
 use Rattle.document.specs.Records.{nodesOf}
 use Rattle.document.proofs.Sound.{Fits, OneKind, Sound}
-use Rattle.ser.specs.declared.records.Mark.{Mark}
-use Rattle.ser.specs.Marks.{mark_of, markAt}
+use Rattle.nodes.specs.declared.marks.Mark.{Mark}
+use Rattle.nodes.specs.Marks.{mark_of, markAt}
+use Rattle.nodes.specs.Homes.{places, Home}
 use Rattle.ser.specs.Moves.{Sheets, node}
-use Rattle.ser.specs.Held.{Slot, holds, spare, slotted, slots_of, is_held, places, Keeps, Home, Holds}
+use Rattle.ser.specs.Held.{Slot, holds, spare, slotted, slots_of, is_held, Keeps, Holds}
 use Rattle.ser.specs.Out.{inChain, value_at, start_at, piece_at, values_of, pieces_of, imageBy, nodeImage, ordered, imageUpTo, image_of, FitsMark, Pieces, PiecesBy, OutSafe, wrote}
 
 -- ---- the values of a node's cells
@@ -62,18 +63,18 @@ numbers-held T p i (holds e ∷ sl) (k, ks) = go (same e.node p) (numbers-held T
 
 -- the pieces of these cells end among the letters
 abbrev Among : Sheets → List ℕ → Type 0
-Among T ks = All (λ k. start_at T.cells k + value_at T.cells k ≤ T.filled) ks
+Among T ks = AllByRecursion (λ k. start_at T.cells k + value_at T.cells k ≤ T.filled) ks
 
 -- where they are texts, the pieces there are their letters, and end among those of the table
-pieces-held : (T : Sheets) (p : Path) (i : ℕ) (sl : List Slot) → KeptFrom T i sl → All IsText (heldBy p sl)
+pieces-held : (T : Sheets) (p : Path) (i : ℕ) (sl : List Slot) → KeptFrom T i sl → AllByRecursion IsText (heldBy p sl)
     → (each (piece_at T.cells T.text) (places (is_held p) i sl) ≡ each str (each cell (heldBy p sl))) × Among T (places (is_held p) i sl)
 pieces-held T p i [] k a = (refl, tt)
 pieces-held T p i (spare ∷ sl) (k, ks) a = pieces-held T p (suc i) sl ks a
 pieces-held T p i (holds e ∷ sl) (k, ks) a = go (same e.node p) (λ a. pieces-held T p (suc i) sl ks a) a
   where
     go : (b : Bool)
-        → (All IsText (heldBy p sl) → (each (piece_at T.cells T.text) (places (is_held p) (suc i) sl) ≡ each str (each cell (heldBy p sl))) × Among T (places (is_held p) (suc i) sl))
-        → All IsText (cond b (e.said ∷ heldBy p sl) (heldBy p sl))
+        → (AllByRecursion IsText (heldBy p sl) → (each (piece_at T.cells T.text) (places (is_held p) (suc i) sl) ≡ each str (each cell (heldBy p sl))) × Among T (places (is_held p) (suc i) sl))
+        → AllByRecursion IsText (cond b (e.said ∷ heldBy p sl) (heldBy p sl))
         → (each (piece_at T.cells T.text) (cond b (i ∷ places (is_held p) (suc i) sl) (places (is_held p) (suc i) sl)) ≡ each str (each cell (cond b (e.said ∷ heldBy p sl) (heldBy p sl))))
         × Among T (cond b (i ∷ places (is_held p) (suc i) sl) (places (is_held p) (suc i) sl))
     go true more (t, a) =
@@ -101,12 +102,12 @@ held-here p e (suc zero) sl l t = cond-true (same e.node p) _ _ t
 held-here p e (suc (suc n)) sl l t = cond-true (same e.node p) _ _ t
 
 -- where all values at p take cells, these are the values in p's cells
-held_at : (p : Path) (ts : List Entry) → All Celling (at p ts) → heldBy p (slots_of ts) ≡ at p ts
+held_at : (p : Path) (ts : List Entry) → AllByRecursion Celling (at p ts) → heldBy p (slots_of ts) ≡ at p ts
 held_at p [] a = refl
 held_at p (e ∷ es) a = ⊎_elim
-    (λ t. let b = subst (All Celling) (cond-true (same e.node p) (e.said ∷ at p es) (at p es) t) a in
+    (λ t. let b = subst (AllByRecursion Celling) (cond-true (same e.node p) (e.said ∷ at p es) (at p es) t) a in
     held-here p e (cells e.said) (slots_of es) b.0 t ∙ ap (λ vs. e.said ∷ vs) (held_at p es b.1) ∙ sym (cond-true (same e.node p) _ _ t))
-    (λ f. let b = subst (All Celling) (cond-false (same e.node p) (e.said ∷ at p es) (at p es) f) a in
+    (λ f. let b = subst (AllByRecursion Celling) (cond-false (same e.node p) (e.said ∷ at p es) (at p es) f) a in
     held-other p e (cells e.said) (slots_of es) f ∙ held_at p es b ∙ sym (cond-false (same e.node p) _ _ f))
     (cases_Bool (same e.node p))
 
@@ -155,18 +156,18 @@ text-kind (map n) e = never (cc)
 text-kind (tuple n) e = never (cc)
 
 -- values of one kind, with a fact of the kind
-all_of : (P : Value → Type 0) (Q : Kind → Type 0) → ((v : Value) → Q (kind v) → P v) → (K : Kind) → Q K → (vs : List Value) → All (λ v. kind v ≡ K) vs → All P vs
+all_of : (P : Value → Type 0) (Q : Kind → Type 0) → ((v : Value) → Q (kind v) → P v) → (K : Kind) → Q K → (vs : List Value) → AllByRecursion (λ v. kind v ≡ K) vs → AllByRecursion P vs
 all_of P Q h K q vs a = All-weaker (λ v. kind v ≡ K) P (λ v e. h v (subst Q (sym e) q)) vs a
 
 -- ---- the bytes of a node
 
 -- what the cells of a node's values tell: their numbers where they take cells, and their letters where they are texts
 pub record Tells (vs : List Value) (xs : List ℕ) (ps : List (List ℕ)) : Type 0 where
-  pub numbers : All Celling vs → xs ≡ each num (each cell vs)
-  pub letters : All Celling vs → All IsText vs → ps ≡ each str (each cell vs)
+  pub numbers : AllByRecursion Celling vs → xs ≡ each num (each cell vs)
+  pub letters : AllByRecursion Celling vs → AllByRecursion IsText vs → ps ≡ each str (each cell vs)
 
 -- the bytes of values of one kind
-bytes-of : (col : Meaning) (K : Kind) (vs : List Value) (xs : List ℕ) (ps : List (List ℕ)) → All (λ v. kind v ≡ K) vs → Tells vs xs ps
+bytes-of : (col : Meaning) (K : Kind) (vs : List Value) (xs : List ℕ) (ps : List (List ℕ)) → AllByRecursion (λ v. kind v ≡ K) vs → Tells vs xs ps
     → imageBy col (mark_of K) xs ps ≡ columns col K (each cell vs)
 unfolding columns
 bytes-of col (SCALAR k) vs xs ps a t = ap (col.image (width k)) (t.numbers (all_of Celling Celled celling (SCALAR k) tt vs a))
@@ -201,7 +202,7 @@ module _ (T : Sheets) (ts : List Entry) (h : Holds T ts) where
       record {
         numbers = λ c. ap (each (value_at T.cells)) (along r p home) ∙ numbers-held T p 1 (slots_of ts) kept ∙ ap (λ vs. each num (each cell vs)) (held_at p ts c);
         letters = λ c t. let e = held_at p ts c in
-            ap (each (piece_at T.cells T.text)) (along r p home) ∙ (pieces-held T p 1 (slots_of ts) kept (subst (All IsText) (sym e) t)).0 ∙ ap (λ vs. each str (each cell vs)) e;
+            ap (each (piece_at T.cells T.text)) (along r p home) ∙ (pieces-held T p 1 (slots_of ts) kept (subst (AllByRecursion IsText) (sym e) t)).0 ∙ ap (λ vs. each str (each cell vs)) e;
       }
 
   -- the bytes of a record are those of its node
@@ -280,7 +281,7 @@ value-fits (map n) f l c = length-fits n l
 value-fits (tuple n) f l c = absurd c
 
 -- .. and so are all values of a kind
-values-fit : (K : Kind) (vs : List Value) → Celled K → All (λ v. kind v ≡ K) vs → All Fits vs → total extent vs < limit → Below (bits_of K) (each num (each cell vs))
+values-fit : (K : Kind) (vs : List Value) → Celled K → AllByRecursion (λ v. kind v ≡ K) vs → AllByRecursion Fits vs → total extent vs < limit → Below (bits_of K) (each num (each cell vs))
 values-fit K [] c a f l = tt
 values-fit K (v ∷ vs) c (e, a) (f, fs) l = (
   subst (λ (k : Kind). num (cell v) < 2 ^ bits_of k) e (value-fits v f (omega arith) (subst Celled (sym e) c)),
@@ -301,7 +302,7 @@ fits_by (TUPLE n) xs h = tt
 mark-fits : (vs : List Value) (xs : List ℕ) (ps : List (List ℕ)) → Sound vs → Tells vs xs ps → FitsMark (markAt vs) xs
 mark-fits [] xs ps s t = tt
 mark-fits (v ∷ vs) xs ps s t =
-    fits_by (kind v) xs (λ c. let a : All (λ u. kind u ≡ kind v) (v ∷ vs) = (refl, s.one-kind) in
+    fits_by (kind v) xs (λ c. let a : AllByRecursion (λ u. kind u ≡ kind v) (v ∷ vs) = (refl, s.one-kind) in
     subst (Below (bits_of (kind v))) (sym (t.numbers (all_of Celling Celled celling (kind v) c (v ∷ vs) a))) (values-fit (kind v) (v ∷ vs) c a s.fits s.short-of))
 
 -- what a mark asks of the pieces
@@ -315,10 +316,10 @@ pieces-by UNIT T ks h = tt
 pieces-by (TUPLE n) T ks h = tt
 
 -- and its pieces lie within the text
-mark-pieces : (vs : List Value) (T : Sheets) (ks : List ℕ) → OneKind vs → (All Celling vs → All IsText vs → Pieces T.cells T.text ks) → PiecesBy (markAt vs) T.cells T.text ks
+mark-pieces : (vs : List Value) (T : Sheets) (ks : List ℕ) → OneKind vs → (AllByRecursion Celling vs → AllByRecursion IsText vs → Pieces T.cells T.text ks) → PiecesBy (markAt vs) T.cells T.text ks
 mark-pieces [] T ks o h = tt
 mark-pieces (v ∷ vs) T ks o h =
-    pieces-by (kind v) T ks (λ e. let a : All (λ u. kind u ≡ kind v) (v ∷ vs) = (refl, o) in
+    pieces-by (kind v) T ks (λ e. let a : AllByRecursion (λ u. kind u ≡ kind v) (v ∷ vs) = (refl, o) in
     h (all_of Celling Celled celling (kind v) (subst Celled (sym e) tt) (v ∷ vs) a) (All-weaker (λ u. kind u ≡ kind v) IsText (λ u k. text-kind u (k ∙ e)) (v ∷ vs) a))
 
 -- The tables keep write-out within its buffers.
@@ -339,6 +340,6 @@ out-safe T ts n h s u m l c =
             pieces = subst (λ (x : Mark). PiecesBy x T.cells T.text (inChain T.cells (node T r).cells)) (sym (h.holding.marks r p home))
                 (mark-pieces (at p ts) T (inChain T.cells (node T r).cells) (s p).one-kind
                 (λ a t. subst (Pieces T.cells T.text) (sym go)
-                (All-weaker (λ i. start_at T.cells i + value_at T.cells i ≤ T.filled) _ (λ i b. omega arith) (places (is_held p) 1 (slots_of ts)) (pieces-held T p 1 (slots_of ts) (kept T ts h) (subst (All IsText) (sym (held_at p ts a)) t)).1)));
+                (All-weaker (λ i. start_at T.cells i + value_at T.cells i ≤ T.filled) _ (λ i b. omega arith) (places (is_held p) 1 (slots_of ts)) (pieces-held T p 1 (slots_of ts) (kept T ts h) (subst (AllByRecursion IsText) (sym (held_at p ts a)) t)).1)));
           };
     }

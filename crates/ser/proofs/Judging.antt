@@ -1,16 +1,16 @@
 -- The tables judge a value as the definitions do.
 use Rattle.std.proofs.Common.{◌≡◌, ℕ, zero, suc, ◌+◌, ◌-◌, ◌≤◌, min, Bool, true, false, cond, not, ◌&&◌, ◌||◌, eqb, ltb, leb, ◌⊎◌, List, [], ◌∷◌, ◌++◌, length, sym, refl, ap, ◌∙◌, inl, inr, ⊎_elim, arith, length-append}
-use Rattle.std.specs.List.{AllByRecursion as All}
+use Rattle.std.specs.List.{AllByRecursion}
 use Rattle.std.proofs.ByRecursion.{All-weaker}
 use Rattle.std.proofs.lemmas.Bool.{eq-eqb, ne_eqb, lt-leb, or_parts, or_from, cond-true, cond-false}
 use Rattle.std.proofs.lemmas.Bool.Decides.{nat_tests}
-use Rattle.document.specs.Calls.{total, extent, Value, scalar, text, unit, none, some, variant, seq, map, tuple, Kind, SCALAR, TEXT, SEQ, MAP, ENUM, UNIT, TUPLE, kind, Call, val}
+use Rattle.document.specs.Calls.{total, extent, Value, scalar, text, unit, none, some, variant, seq, map, tuple, ENUM, UNIT, kind, Call, val}
 use Rattle.document.specs.Nodes.{Path, ◌▹◌, alt, same}
 use Rattle.document.specs.Entries.{Entry, entry, leaves, at}
 use Rattle.document.specs.Places.{start}
 use Rattle.document.specs.Trace.{trace}
 use Rattle.document.specs.Columns.{limit}
-use Rattle.document.specs.Tables.{cells, takes, branchOf, newBranch, cells_of, recordsOf, lettersOf, usableNodes, usableCells, usableText}
+use Rattle.document.specs.Tables.{branchOf, newBranch, cells_of, recordsOf, lettersOf, usableNodes, usableCells, usableText}
 use Rattle.document.specs.Records.{had, addedBy, added, marked, nodesOf, times}
 use Rattle.document.specs.Verdict.{any_of, strange, clash, tooLong, weighed, Accepted}
 use Rattle.document.proofs.Paths.{at-append, total-append}
@@ -19,13 +19,17 @@ use Rattle.document.proofs.Accepting.{same_kind}
 use Rattle.document.proofs.Between.{at_here}
 use Rattle.document.proofs.Allotting.{length-nodes}
 use Rattle.document.proofs.Growth.{records-more, cells-more, letters-more, length_marked, length-added-one, branch-there}
-use Rattle.ser.specs.declared.records.Mark.TheVariants as marks
-use Rattle.ser.specs.Marks.{mark_of, markAt, familyOf}
+use Rattle.nodes.specs.declared.marks.Mark.TheVariants as marks
+use Rattle.nodes.specs.Marks.{mark_of, markAt}
+use Rattle.nodes.specs.Homes.{Home}
+use Rattle.nodes.proofs.Homes.{home-times}
+use Rattle.nodes.proofs.Kin.{mark-number}
+use Rattle.nodes.proofs.Families.{family-takes}
 use Rattle.ser.specs.Brings.{load_of, loadCells, loadExtent, index_of, lettersIn, is_lone}
 use Rattle.ser.specs.Moves.{Sheets, node, childOf, branchIn}
 use Rattle.ser.specs.Tables.{sizesOf, isOther, noUnit, strangeAt, newChild, nodesFor, lacksNodes, lacksCells, lacksText, isTooLong, weighedAt}
-use Rattle.ser.specs.Held.{Home, Holds}
-use Rattle.ser.proofs.Found.{home-times, mark-number, fresh_at, child-found, length-slots}
+use Rattle.ser.specs.Held.{Holds}
+use Rattle.ser.proofs.Found.{fresh_at, child-found, length-slots}
 use Rattle.ser.proofs.Bounded.{Bounded, accepted-bounded, unseen}
 
 -- ---- what a value leaves
@@ -90,16 +94,6 @@ letters-load p (tuple zero) = refl
 letters-load p (tuple (suc zero)) = refl
 letters-load p (tuple (suc (suc n))) = refl
 
--- A mark comes with as many children as its kind takes records.
-pub family-takes : (K : Kind) → familyOf (mark_of K) ≡ takes K
-family-takes (SCALAR k) = refl
-family-takes TEXT = refl
-family-takes SEQ = refl
-family-takes MAP = refl
-family-takes ENUM = refl
-family-takes UNIT = refl
-family-takes (TUPLE n) = refl
-
 -- A unit adds no node with a record.
 unit-adds : (ds : List Entry) (q : Path) → length (added ds (entry q unit)) ≡ 0
 unit-adds ds q = go (at q ds)
@@ -116,7 +110,7 @@ other-strange T r [] v e = rw (fresh_at T r [] e) refl
 other-strange T r (u ∷ us) v e = rw (fresh_at T r (u ∷ us) e, e, mark-number (kind u), mark-number (kind v)) (grind (arith, nat_tests))
 
 -- Values of one kind, among which one of ENUM is not strange, are all of ENUM.
-pub enums : (vs : List Value) (v : Value) → OneKind vs → kind v ≡ ENUM → strange vs v ≡ false → All (λ u. kind u ≡ ENUM) vs
+pub enums : (vs : List Value) (v : Value) → OneKind vs → kind v ≡ ENUM → strange vs v ≡ false → AllByRecursion (λ u. kind u ≡ ENUM) vs
 enums [] v h k s = tt
 enums (u ∷ us) v h k s = let e : kind u ≡ ENUM = sym (same_kind u v us s) ∙ k in (e, All-weaker (λ w. kind w ≡ kind u) (λ w. kind w ≡ ENUM) (λ w q. q ∙ e) us h)
 

@@ -1,29 +1,31 @@
 -- A writer that stands for a list of calls is safe: the code stays within its tables.
-use Rattle.std.proofs.Common.{◌≡◌, ℕ, zero, suc, ◌+◌, ◌-◌, ◌<◌, ◌≤◌, Bool, true, List, [], ◌∷◌, length, get_or, refl, subst, inl, inr, ⊎_elim, arith}
+use Rattle.std.proofs.Common.{◌≡◌, ℕ, suc, ◌+◌, ◌<◌, ◌≤◌, Bool, true, List, [], ◌∷◌, map, length, get_or, refl, subst, ⊎_elim, arith}
 use native.Mathlib.Bridge.{le_prop}
 use Rattle.std.proofs.ByRecursion.{All-weaker}
 use Rattle.chain.specs.Chains.{Runs}
 use Rattle.document.specs.Calls.{Value, Call}
 use Rattle.document.specs.Nodes.{Path, root, ◌▹◌}
 use Rattle.document.specs.Entries.{Entry, at}
-use Rattle.document.specs.Places.{Place, items, keys, vals, fields, lone, only, closing, start}
+use Rattle.document.specs.Places.{start}
 use Rattle.document.specs.Trace.{trace, placesAfter}
 use Rattle.document.specs.Records.{nodesOf}
 use Rattle.document.specs.Verdict.{Accepted}
 use Rattle.document.proofs.Between.{isNil}
 use Rattle.document.proofs.Allotting.{length-nodes, once}
 use Rattle.document.proofs.Growth.{unmarked-childless, firsts-few, firsts-fewer}
-use Rattle.ser.specs.declared.places.State.{State}
-use Rattle.ser.specs.declared.places.State.TheVariants.{Root, Items, Keys, Vals, Fields, Lone, One, Closing}
+use Rattle.nodes.specs.Stack.{top}
+use Rattle.nodes.specs.Homes.{node_of, Home, isChild, places}
+use Rattle.nodes.proofs.PlacesOf.{places-none, places-within, places-last}
+use Rattle.nodes.proofs.Homes.{home-times}
+use Rattle.nodes.proofs.Aiming.{stack-aims, aims-prop}
+use Rattle.nodes.proofs.Seeking.{child-step, seek_found}
 use Rattle.ser.specs.declared.desk.Desk.{Desk}
 use Rattle.ser.specs.Moves.{Sheets, sheets, node, isFresh, childOf}
 use Rattle.ser.specs.Tables.{sizesOf}
-use Rattle.ser.specs.Steps.{stack, top}
-use Rattle.ser.specs.Held.{node_of, Home, isChild, is_held, places, slots_of, nodeNexts, Holds}
-use Rattle.ser.specs.Standing.{Placed, Open, Stands}
-use Rattle.ser.specs.Safe.{RowSafe, RowsSafe, Aims, Safe}
-use Rattle.ser.proofs.PlacesOf.{places-none, places-within, places-last}
-use Rattle.ser.proofs.Found.{home-times, child-step, fresh_at, seek_found, children-course, length-slots}
+use Rattle.ser.specs.Held.{is_held, slots_of, nodeNexts, Holds}
+use Rattle.ser.specs.Standing.{Stands}
+use Rattle.ser.specs.Safe.{RowSafe, RowsSafe, Safe}
+use Rattle.ser.proofs.Found.{fresh_at, children-course, length-slots}
 use Rattle.ser.proofs.Bounded.{Bounded, accepted-bounded}
 
 -- ---- the tables
@@ -50,7 +52,7 @@ module _ (T : Sheets) (ts : List Entry) (bounded : Bounded (sizesOf T) ts) (h : 
   child-below : (r : ℕ) (p : Path) → Home (nodesOf ts) r p → (i : ℕ) → childOf T r i < T.used
   child-below r p home i = rw (children-course T ts h r p home i, h.holding.used)
       (⊎_elim (λ n. omega (arith, n.0)) (λ f. f.0)
-      (seek_found T.nodes i (λ k. k < 1 + length (nodesOf ts)) (places (isChild p) 1 (nodesOf ts))
+      (seek_found (map (λ n. n.index) T.nodes) i (λ k. k < 1 + length (nodesOf ts)) (places (isChild p) 1 (nodesOf ts))
       (All-weaker (λ k. (1 ≤ k) × (k < 1 + length (nodesOf ts))) (λ k. k < 1 + length (nodesOf ts)) (λ k b. b.1) (places (isChild p) 1 (nodesOf ts)) (places-within (isChild p) 1 (nodesOf ts)))))
 
   -- The record of a node is safe.
@@ -85,24 +87,6 @@ module _ (T : Sheets) (ts : List Entry) (bounded : Bounded (sizesOf T) ts) (h : 
 pub safe-rows : (T : Sheets) (cs : List Call) → Accepted (sizesOf T) cs → Holds T (trace start cs) → RowsSafe T
 safe-rows T cs a h = tables-safe T (trace start cs) (accepted-bounded (sizesOf T) cs a) h
 
--- ---- the places
-
--- A place of the code that is one of the definitions has its next value at a record in use.
-placed-aims : (ns : List Path) (used : ℕ) → used ≡ 1 + length ns → (s : State) (f : Place) → Placed ns s f → Aims used s
-placed-aims ns used u s (items p n) (r, e, k) = rw e (k.0, omega (arith, k.1))
-placed-aims ns used u s (keys p n) (r, e, k, l) = rw e (k.0, omega (arith, k.1))
-placed-aims ns used u s (vals p n) (r, e, k, l) = rw e (omega (arith, l.1))
-placed-aims ns used u s (fields p i n) (r, e, k) = rw e (λ some_left. (omega (arith, (k 0 some_left).0), omega (arith, (k 0 some_left).1)))
-placed-aims ns used u s (lone p n) (r, e, k) = rw e (k.0, omega (arith, k.1))
-placed-aims ns used u s (only p) (r, e, k) = rw e (k.0, omega (arith, k.1))
-placed-aims ns used u s closing e = rw e tt
-
--- So has the innermost of the open places.
-open-aims : (ns : List Path) (used : ℕ) → used ≡ 1 + length ns → (s : State) (ss : List State) (fs : List Place) → Open ns (s ∷ ss) fs → Aims used s
-open-aims ns used u s ss fs (inl (e, k, l)) = rw e tt
-open-aims ns used u s ss [] (inr b) = absurd b
-open-aims ns used u s ss (f ∷ fs) (inr (k, l)) = placed-aims ns used u s f k
-
 -- ---- the writer
 
 -- A writer that stands for some calls is safe.
@@ -112,14 +96,8 @@ safe d cs k =
       tables = safe-rows (sheets d.tables) cs k.accepted k.holds;
       depth = k.depth;
       places = omega (arith, k.places);
-      aims = aims d.depth k.opens;
+      aims = stack-aims (nodesOf (trace start cs)) d.tables.used k.holds.holding.used d.places (placesAfter start cs) k.opens;
     }
-  where
-    aims : (n : ℕ) → Open (nodesOf (trace start cs)) (stack d.places n) (placesAfter start cs) → 0 < n → Aims d.tables.used (get_or d.places (n - 1) (record { state = Root })).state
-    aims zero o l = absurd (omega arith)
-    aims (suc n) o l =
-        let e : suc n - 1 ≡ n = omega arith in
-        rw e (open-aims (nodesOf (trace start cs)) d.tables.used k.holds.holding.used _ (stack d.places n) (placesAfter start cs) o)
 
 -- ---- two proofs of safety are one
 
@@ -147,22 +125,11 @@ rows-prop T a b = λ i. record {
   rows = λ r l u. row-prop T r (a.rows r l u) (b.rows r l u) i;
 }
 
--- Of a place.
-aims-prop : (used : ℕ) (s : State) → IsProp (Aims used s)
-aims-prop used Root a b = refl
-aims-prop used (Items r n) a b = λ i. (le_prop a.0 b.0 i, le_prop a.1 b.1 i)
-aims-prop used (Keys r n) a b = λ i. (le_prop a.0 b.0 i, le_prop a.1 b.1 i)
-aims-prop used (Vals r n) a b = le_prop a b
-aims-prop used (Fields r n) a b = λ i l. (le_prop (a l).0 (b l).0 i, le_prop (a l).1 (b l).1 i)
-aims-prop used (Lone r n) a b = λ i. (le_prop a.0 b.0 i, le_prop a.1 b.1 i)
-aims-prop used (One r) a b = λ i. (le_prop a.0 b.0 i, le_prop a.1 b.1 i)
-aims-prop used Closing a b = refl
-
 -- Of the writer.
 pub safe-prop : (d : Desk) → IsProp (Safe d)
 safe-prop d a b = λ i. record {
   tables = rows-prop (sheets d.tables) a.tables b.tables i;
   depth = le_prop a.depth b.depth i;
   places = le_prop a.places b.places i;
-  aims = λ l. aims-prop d.tables.used (top d) (a.aims l) (b.aims l) i;
+  aims = λ l. aims-prop d.tables.used (top d.places) (a.aims l) (b.aims l) i;
 }

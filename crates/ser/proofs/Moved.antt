@@ -5,11 +5,11 @@ use Rattle.std.proofs.lemmas.Bool.{cases_eq}
 use Rattle.chain.specs.declared.Chain.{Chain}
 use Rattle.chain.specs.Chains.{adjust, appended, longer}
 use Rattle.chain.proofs.Tables.{length-adjust, length-appended, getD-adjust-same, getD-adjust-other, getD-appended-place, adjust-keeps, appended-first, appended-after}
-use Rattle.ser.specs.declared.records.Mark.{Mark}
+use Rattle.nodes.specs.declared.marks.Mark.{Mark}
+use Rattle.nodes.specs.Marks.{familyOf}
 use Rattle.ser.specs.declared.records.Node.{Node}
 use Rattle.ser.specs.declared.loads.Load.{Load}
 use Rattle.ser.specs.declared.loads.Load.TheVariants.{Nothing, Number, Length}
-use Rattle.ser.specs.Marks.{familyOf}
 use Rattle.ser.specs.Moves.{Sheets, node, blankNode, child, isFresh, withNext, withMark, withOrder, withChildren, withCells, with_sum, spawned, named, grown, touched, celled, kept, branched}
 
 -- ---- a new child

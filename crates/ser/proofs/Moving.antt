@@ -1,24 +1,24 @@
 -- What the tables hold after each move.
-use Rattle.std.proofs.Common.{◌≡◌, ℕ, zero, suc, ◌+◌, ◌-◌, ◌<◌, ◌≤◌, Bool, true, false, cond, eqb, ◌⊎◌, List, [], ◌∷◌, ◌++◌, map as each, length, get_or, take, drop, set, sym, refl, ap, ◌∙◌, subst, inl, inr, ⊎_elim, append_assoc, arith, length-append, get_or-append-add}
+use Rattle.std.proofs.Common.{◌≡◌, ℕ, zero, suc, ◌+◌, ◌-◌, ◌<◌, ◌≤◌, Bool, true, false, cond, eqb, ◌⊎◌, List, [], ◌∷◌, ◌++◌, map as each, length, get_or, take, drop, sym, refl, ap, ◌∙◌, subst, inl, inr, ⊎_elim, append_assoc, arith, length-append, get_or-append-add}
 use lib.Seq.{get_or-append_seam}
-use Rattle.std.specs.List.{AllByRecursion as All}
 use Rattle.std.proofs.lemmas.List.{get_or_append_left, length-map}
-use Rattle.std.proofs.lemmas.Bool.{cases_eq, cases_lt, cond-true, cond-false, eq-eqb, ne_eqb, cases_Bool, both_ways}
+use Rattle.std.proofs.lemmas.Bool.{cases_eq, cases_lt, cond-true, cond-false, eq-eqb, ne_eqb, cases_Bool}
 use Rattle.chain.specs.declared.Chain.{Chain}
-use Rattle.chain.specs.Chains.{Runs, last_of, longer, appended, adjust}
-use Rattle.chain.proofs.Tables.{length-adjust, getD-adjust-same, getD-adjust-other, adjust-keeps, length-appended, appended-keeps, getD-appended-place, nexts-appended}
+use Rattle.chain.specs.Chains.{longer, appended, adjust}
+use Rattle.chain.proofs.Tables.{length-adjust, getD-adjust-same, getD-adjust-other, adjust-keeps, length-appended, appended-keeps, nexts-appended}
 use Rattle.document.specs.Calls.{cell, num, str}
-use Rattle.document.specs.Nodes.{Path, root, ◌▹◌, Step, same}
+use Rattle.document.specs.Nodes.{Path, root, same}
 use Rattle.document.specs.Entries.{Entry}
 use Rattle.document.proofs.Paths.{same_self, same_true}
-use Rattle.ser.specs.declared.records.Mark.{Mark}
-use Rattle.ser.specs.declared.records.Mark.TheVariants.{Unmarked}
+use Rattle.nodes.specs.declared.marks.Mark.{Mark}
+use Rattle.nodes.specs.declared.marks.Mark.TheVariants.{Unmarked}
+use Rattle.nodes.specs.Homes.{Home, ordinal, isChild, places, Threads}
+use Rattle.nodes.proofs.Threading.{threads-on, threads-off, places-skip}
+use Rattle.nodes.proofs.Homes.{home-more, home-cases, home-one, child-one}
 use Rattle.ser.specs.declared.records.Node.{Node}
 use Rattle.ser.specs.declared.records.Cell.{Cell}
 use Rattle.ser.specs.Moves.{Sheets, node, cell_at, blankNode, blankCell, noChain, child, withNext, withMark, with_sum, withChildren, withCells, withOrder, cellWithNext, spawned, named}
-use Rattle.ser.specs.Held.{Home, ordinal, isChild, Slot, holds, spare, is_held, slotted, places, Threads, nodeNexts, cellNexts, Keeps, Holding}
-use Rattle.ser.proofs.Threading.{threads-on, threads-off, places-skip}
-use Rattle.ser.proofs.Homes.{home-more, home-new, home-cases, home-one, child-one}
+use Rattle.ser.specs.Held.{Slot, holds, spare, is_held, slotted, nodeNexts, cellNexts, Keeps, Holding}
 
 -- no node has two records
 abbrev pub Alone : List Path → Type 0

@@ -2,17 +2,17 @@
 use Rattle.std.proofs.Common.{ℕ, ◌+◌, ◌^◌, ◌<◌, ◌≤◌, List, [], ◌∷◌, length, refl, arith}
 use mathlib.Core.HLevel.{×_prop}
 use native.Mathlib.Bridge.{le_prop}
-use Rattle.std.specs.List.{AllByRecursion as All}
+use Rattle.std.specs.List.{AllByRecursion}
 use Rattle.document.specs.Calls.{width}
-use Rattle.ser.specs.declared.records.Mark.{Mark}
-use Rattle.ser.specs.declared.records.Mark.TheVariants as marks
+use Rattle.nodes.specs.declared.marks.Mark.{Mark}
+use Rattle.nodes.specs.declared.marks.Mark.TheVariants as marks
 use Rattle.ser.specs.declared.records.Node.{Node}
 use Rattle.ser.specs.declared.records.Cell.{Cell}
 use Rattle.ser.specs.Moves.{Sheets}
 use Rattle.ser.specs.Out.{start_at, value_at, FitsMark, PiecesBy, NodeSafe, OutSafe}
 
 -- what holds of each element in one way at most
-all_prop : {X : Type 0} (P : X → Type 0) → ((x : X) → IsProp (P x)) → (xs : List X) → IsProp (All P xs)
+all_prop : {X : Type 0} (P : X → Type 0) → ((x : X) → IsProp (P x)) → (xs : List X) → IsProp (AllByRecursion P xs)
 all_prop P h [] = λ a b. refl
 all_prop P h (x ∷ xs) = ×_prop (h x) (all_prop P h xs)
 

@@ -8,9 +8,9 @@ use Rattle.column.specs.Parsed.{fault}
 use Rattle.column.specs.Meaning.{Meaning}
 use Rattle.column.specs.Widths.{listed, below, Below}
 use Rattle.column.specs.Interface.{overlaid, writing, Written}
-use Rattle.column.specs.Choice.{chose, declined}
-use Rattle.column.specs.WidthsLemmas.{below-decides}
-use Rattle.column.specs.Overlaid.{overlaid-nil, length-overlaid, take-overlaid, overlaid-append}
+use Rattle.column.proofs.Choice.{chose, declined}
+use Rattle.column.proofs.Widths.{below-decides}
+use Rattle.column.proofs.Overlaid.{overlaid-nil, length-overlaid, take-overlaid, overlaid-append}
 use Rattle.document.specs.declared.refusals.Refusal.{Refusal}
 use Rattle.document.specs.declared.refusals.Refusal.TheVariants as refusals
 use Rattle.document.specs.Refusals.{ofFault}

@@ -1,28 +1,19 @@
 -- What the tables owe to the proof that a call tells the truth: their verdict is that of the definitions, and a value that they take is entered in them.
-use Rattle.std.proofs.Common.{◌≡◌, ℕ, List, [], ◌∷◌, ◌++◌, Ok, Option}
-use Rattle.std.specs.declared.option.Option.TheVariants as options
+use Rattle.std.proofs.Common.{◌≡◌, ℕ, List, ◌++◌, Ok}
 use Rattle.document.specs.Calls.{Value, Call, val}
 use Rattle.document.specs.Nodes.{Path}
 use Rattle.document.specs.Entries.{Entry, leaves}
-use Rattle.document.specs.Places.{Place, opens, start}
+use Rattle.document.specs.Places.{opens, start}
 use Rattle.document.specs.Trace.{trace}
 use Rattle.document.specs.Records.{nodesOf}
 use Rattle.document.specs.Verdict.{Real, Accepted, weighed}
-use Rattle.ser.specs.declared.places.State.{State}
+use Rattle.nodes.specs.Homes.{Home}
+use Rattle.nodes.specs.Placed.{Opens}
 use Rattle.ser.specs.Brings.{index_of}
 use Rattle.ser.specs.Moves.{Sheets, branchIn, enteredChild}
 use Rattle.ser.specs.Tables.{sizesOf, weighedAt}
 use Rattle.ser.specs.Steps.{openedAt, entered_at}
-use Rattle.ser.specs.Held.{Home, Holds}
-use Rattle.ser.specs.Standing.{Placed}
-
--- the place that a value opens in the code is the one that it opens in the definitions
-abbrev pub Opens : List Path → Option State → List Place → Type 0
-Opens ns options.None [] = Unit {0}
-Opens ns options.None (f ∷ fs) = ⊥
-Opens ns (options.Some s) [] = ⊥
-Opens ns (options.Some s) (f ∷ []) = Placed ns s f
-Opens ns (options.Some s) (f ∷ (g ∷ fs)) = ⊥
+use Rattle.ser.specs.Held.{Holds}
 
 -- a value at the record r of the node p is entered: the tables hold its entries too and are as long as they were, and it opens its place
 pub record Entered (T : Sheets) (ts : List Entry) (r : ℕ) (p : Path) (v : Value) : Type 0 where

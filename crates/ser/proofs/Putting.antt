@@ -1,27 +1,26 @@
 -- One value goes into the tables, by all its moves.
-use Rattle.std.proofs.Common.{◌≡◌, ℕ, zero, suc, ◌+◌, ◌-◌, ◌<◌, ◌≤◌, Bool, true, false, cond, eqb, ltb, ◌≢◌, List, [], ◌∷◌, ◌++◌, length, take, drop, Option, sym, refl, ap, ◌∙◌, subst, ⊎_elim, arith, length-append, length-take}
+use Rattle.std.proofs.Common.{◌≡◌, ℕ, ◌+◌, ◌<◌, ◌≤◌, Bool, true, false, cond, ltb, ◌≢◌, List, [], ◌∷◌, ◌++◌, length, take, drop, Option, sym, refl, ap, ◌∙◌, arith, length-append, length-take}
 use lib.Seq.{take-append_seam, drop-append_seam}
 use Rattle.std.specs.declared.option.Option.TheVariants as options
 use Rattle.std.proofs.lemmas.List.{drop-take}
 use Rattle.column.specs.Interface.{overlaid}
-use Rattle.column.specs.Overlaid.{length-overlaid, take-overlaid}
-use Rattle.chain.specs.Chains.{appended}
+use Rattle.column.proofs.Overlaid.{length-overlaid, take-overlaid}
 use Rattle.chain.proofs.Tables.{length-adjust, length-appended}
 use Rattle.document.specs.Calls.{Value, scalar, text, unit, none, some, variant, seq, map, tuple, kind, cell, num, str, extent, val}
 use Rattle.document.specs.Nodes.{Path, ◌▹◌, alt}
 use Rattle.document.specs.Entries.{Entry, entry, at}
 use Rattle.document.specs.Tables.{cells, lengthCells, cells_of, lettersOf, usableCells, branchOf}
 use Rattle.document.specs.Records.{nodesOf, marked, newChild, had, times}
-use Rattle.document.specs.Verdict.{Sizes}
 use Rattle.document.proofs.Growth.{nodes-snoc, cells-more, letters-more}
-use Rattle.ser.specs.declared.records.Mark.{Mark}
+use Rattle.nodes.specs.declared.marks.Mark.{Mark}
+use Rattle.nodes.specs.Marks.{mark_of}
+use Rattle.nodes.specs.Homes.{Home}
 use Rattle.ser.specs.declared.loads.Load.{Load}
 use Rattle.ser.specs.declared.loads.Load.TheVariants.{Nothing, Number, Length}
-use Rattle.ser.specs.Marks.{mark_of, familyOf}
-use Rattle.ser.specs.Brings.{index_of, load_of, lettersIn}
-use Rattle.ser.specs.Moves.{Sheets, node, isFresh, withMark, withOrder, with_sum, cellWithNext, spawned, named, grown, touched, kept, lettered, branched, put, putChild}
+use Rattle.ser.specs.Brings.{index_of, load_of}
+use Rattle.ser.specs.Moves.{Sheets, with_sum, cellWithNext, touched, kept, lettered, branched, put, putChild}
 use Rattle.ser.specs.Tables.{sizesOf}
-use Rattle.ser.specs.Held.{Home, Slot, slotted, Holding, Holds}
+use Rattle.ser.specs.Held.{Holds}
 use Rattle.ser.proofs.Found.{length-slots}
 use Rattle.ser.proofs.Moving.{stored, newCell}
 use Rattle.ser.proofs.Moved.{length-touched, touched-rest, length-branched, branched-rest}

@@ -8,12 +8,13 @@ use Rattle.document.specs.Calls.{Call, val, none}
 use Rattle.document.specs.Columns.{limit}
 use Rattle.document.specs.Verdict.{first_of, highIndex, illFormed}
 use Rattle.chain.proofs.Courses.{course-end}
-use Rattle.ser.specs.declared.records.Mark.{Mark}
-use Rattle.ser.specs.declared.records.Mark.TheVariants as marks
+use Rattle.nodes.specs.declared.marks.Mark.{Mark}
+use Rattle.nodes.specs.declared.marks.Mark.TheVariants as marks
+use Rattle.nodes.specs.Marks.{markNumber, familyOf}
+use Rattle.nodes.specs.Children.{seek}
 use Rattle.ser.specs.declared.loads.Load.{Load}
-use Rattle.ser.specs.Marks.{markNumber, familyOf}
 use Rattle.ser.specs.Brings.{valueIn, marking, loading, branching, loadCells, loadExtent, lettersIn, is_lone}
-use Rattle.ser.specs.Moves.{Sheets, node, isFresh, seek, childOf, branchIn, spawned, touched, celled, branched, kept, put, putChild}
+use Rattle.ser.specs.Moves.{Sheets, node, isFresh, childOf, branchIn, spawned, touched, celled, branched, kept, put, putChild}
 use Rattle.ser.specs.Tables.{strangeAt, newChild, nodesFor, lacksNodes, lacksCells, lacksText, isTooLong, weighedAt}
 use Rattle.ser.specs.Safe.{RowsSafe}
 use Rattle.ser.specs.Bounds.{TouchSafe, BranchSafe, KeepSafe, PutSafe}
@@ -137,7 +138,7 @@ put-safe T r k c safe p l e lone =
 
 -- a record without a value has no child
 pub fresh-childless : (T : Sheets) (r i : ℕ) → RowsSafe T → 0 < r → r < T.used → isFresh T r ≡ true → childOf T r i ≡ 0
-fresh-childless T r i safe p l f = ap (seek T.nodes i) (course-end (map (λ n. n.next) T.nodes) (node T r).children.first (omega (arith, (safe.rows r p l).bare f)))
+fresh-childless T r i safe p l f = ap (seek (map (λ n. n.index) T.nodes) i) (course-end (map (λ n. n.next) T.nodes) (node T r).children.first (omega (arith, (safe.rows r p l).bare f)))
 
 -- no child comes with an enum's mark
 no-child : (b : Bool) → ◌≡◌ {A = ℕ} (cond b 0 0) 0

@@ -1,34 +1,37 @@
 -- A value that the tables take is entered in them, and opens its place.
-use Rattle.std.proofs.Common.{◌≡◌, ℕ, zero, suc, ◌+◌, ◌-◌, ◌<◌, ◌≤◌, Bool, true, false, cond, eqb, ◌≢◌, List, [], ◌∷◌, ◌++◌, length, get_or, Ok, sym, refl, ap, ◌∙◌, subst, inl, inr, ⊎_elim, append_assoc, arith, length-append}
+use Rattle.std.proofs.Common.{◌≡◌, ℕ, zero, suc, ◌+◌, ◌<◌, ◌≤◌, Bool, true, false, cond, eqb, ◌≢◌, List, [], ◌∷◌, ◌++◌, length, get_or, Ok, sym, refl, ap, ◌∙◌, subst, inl, inr, ⊎_elim, append_assoc, arith, length-append}
 use Rattle.std.specs.declared.option.Option.TheVariants as options
 use Rattle.std.proofs.lemmas.List.{append-nil}
-use Rattle.std.proofs.lemmas.Bool.{or_parts, cond-false, ne_eqb}
+use Rattle.std.proofs.lemmas.Bool.{or_parts, ne_eqb}
 use Rattle.document.specs.declared.refusals.Refusal.TheVariants as refusals
-use Rattle.document.specs.Calls.{Value, scalar, text, unit, none, some, variant, seq, map, tuple, kind, Kind, ENUM, Call, val}
-use Rattle.document.specs.Nodes.{Path, root, ◌▹◌, elem, key, value, field, alt, same}
+use Rattle.document.specs.Calls.{Value, scalar, text, unit, none, some, variant, seq, map, tuple, kind, ENUM, val}
+use Rattle.document.specs.Nodes.{Path, root, ◌▹◌, elem, key, alt, same}
 use Rattle.document.specs.Entries.{Entry, entry, leaves, at}
 use Rattle.document.specs.Places.{start, opens}
 use Rattle.document.specs.Trace.{trace}
 use Rattle.document.specs.Tables.{takes, cells_of, usableCells}
 use Rattle.document.specs.Records.{nodesOf, brought, times, added}
-use Rattle.document.specs.Verdict.{Real, Accepted, any_of, strange, clash, weighed}
+use Rattle.document.specs.Verdict.{any_of, strange, clash, weighed}
 use Rattle.document.proofs.Paths.{same_true}
 use Rattle.document.proofs.Accepting.{passed, same_kind, value-kept}
 use Rattle.document.proofs.Between.{at_on, at_off}
 use Rattle.document.proofs.Allotting.{once, length-nodes, times-append}
 use Rattle.document.proofs.Growth.{nodes-snoc, cells-more, letters-more}
-use Rattle.ser.specs.declared.places.State.TheVariants as states
+use Rattle.nodes.specs.declared.places.State.TheVariants as states
+use Rattle.nodes.specs.Homes.{Home}
+use Rattle.nodes.specs.Placed.{Opens}
+use Rattle.nodes.proofs.Homes.{home-times}
+use Rattle.nodes.proofs.Homes.{home-more}
+use Rattle.nodes.proofs.Families.{field_at}
 use Rattle.ser.specs.Brings.{index_of}
-use Rattle.ser.specs.Moves.{Sheets, node, branchIn, put, putChild, enteredChild}
-use Rattle.ser.specs.Tables.{sizesOf, weighedAt}
-use Rattle.ser.specs.Steps.{entered_at, openedAt}
-use Rattle.ser.specs.Held.{Home, Holds}
-use Rattle.ser.proofs.Found.{home-times, child-found}
+use Rattle.ser.specs.Moves.{Sheets, node, branchIn, put, putChild}
+use Rattle.ser.specs.Tables.{sizesOf}
+use Rattle.ser.specs.Steps.{entered_at}
+use Rattle.ser.specs.Held.{Holds}
+use Rattle.ser.proofs.Found.{child-found}
 use Rattle.ser.proofs.Bounded.{Bounded, accepted-bounded, letters-weighed}
 use Rattle.ser.proofs.Judging.{judges, enums}
-use Rattle.ser.proofs.Plans.{Opens, Entered, Enters}
-use Rattle.ser.proofs.Homes.{home-more}
-use Rattle.ser.proofs.Growing.{field_at}
+use Rattle.ser.proofs.Plans.{Entered, Enters}
 use Rattle.ser.proofs.Entering.{Found}
 use Rattle.ser.proofs.Blocks.{together}
 use Rattle.ser.proofs.Putting.{Room, Put, puts}

@@ -9,23 +9,28 @@ use Rattle.document.specs.declared.refusals.Refusal.TheVariants as refusals
 use Rattle.document.specs.Calls.{Value, scalar, text, unit, none, some, variant, seq, map, tuple, Call, val, end}
 use Rattle.document.specs.Nodes.{Path, root}
 use Rattle.document.specs.Entries.{Entry, leaves}
-use Rattle.document.specs.Places.{Place, closing, Next, nowhere, there, next, full, opens, settle, tooMany, goes, turn, start}
+use Rattle.document.specs.Places.{Place, items, keys, vals, fields, lone, only, closing, Next, nowhere, there, next, full, opens, settle, tooMany, goes, turn, start}
 use Rattle.document.specs.Trace.{trace, placesAfter}
 use Rattle.document.specs.Records.{addedBy, nodesOf}
 use Rattle.document.specs.Verdict.{Sizes, weighed, judged, verdict, Real, AcceptedAfter, Accepted}
 use Rattle.document.proofs.Accepting.{accepted-runs, accepted-held}
 use Rattle.document.proofs.Growth.{nodes-more}
-use Rattle.ser.specs.declared.places.State.{State}
-use Rattle.ser.specs.declared.places.State.TheVariants as states
+use Rattle.nodes.specs.declared.places.State.{State}
+use Rattle.nodes.specs.declared.places.State.TheVariants as states
+use Rattle.nodes.specs.Stack.{waiting, levels, stack, top, settled, opening, rest}
+use Rattle.nodes.specs.Ahead.{Ahead, nowhere as no_record, there as at_record, ahead}
+use Rattle.nodes.specs.Homes.{Home}
+use Rattle.nodes.specs.Placed.{Placed, Stacked, Open, Opens}
+use Rattle.nodes.proofs.Placing.{stacked-mono, length-levels, length-stacked, settles, stacks, Leads, leads, full_is}
+use Rattle.nodes.proofs.Stacked.{replaced-settled}
 use Rattle.ser.specs.declared.desk.Desk.{Desk}
 use Rattle.ser.specs.Brings.{index_of, isOpening}
 use Rattle.ser.specs.Moves.{Sheets, sheets, branchIn, enteredChild}
 use Rattle.ser.specs.Tables.{sizesOf, weighedAt}
-use Rattle.ser.specs.Steps.{openedAt, entered_at, answering, entering, Outcome, declined, moved, counted, replaced, begun, onValue, outcome, stack, top, settled, opening, rest, Did, calling}
-use Rattle.ser.specs.Held.{Home, Holds}
-use Rattle.ser.specs.Standing.{Stacked, Open, Stands, Told}
-use Rattle.ser.proofs.Plans.{Opens, Judges, Enters}
-use Rattle.ser.proofs.Placing.{stacked-mono, length-stack, length-stacked, settles, stacks, Waits, waits, full_is}
+use Rattle.ser.specs.Steps.{openedAt, entered_at, answering, entering, Outcome, declined, moved, counted, begun, onAhead, onValue, outcome, Did, calling}
+use Rattle.ser.specs.Held.{Holds}
+use Rattle.ser.specs.Standing.{Stands, Told}
+use Rattle.ser.proofs.Plans.{Judges, Enters}
 
 -- ---- a value at a record
 
@@ -114,28 +119,37 @@ counted-agrees : (T : Sheets) (ts : List Entry) (fs gs : List Place) (ss : List 
 counted-agrees T ts fs gs ss r p v s (Ok opened) is h w = value-turns T ts fs gs (s ∷ ss) r p v opened is h w
 counted-agrees T ts fs gs ss r p v s (Err e) is h w = rw is w
 
--- the place that the document's value opens is the only one then
-replaced-settled : (opened : Option State) → settled (replaced opened ∷ []) ≡ settled (opening opened [])
-replaced-settled options.None = refl
-replaced-settled (options.Some s) = refl
-
 -- the document's value
 begun-agrees : (T : Sheets) (ts : List Entry) (r : ℕ) (v : Value) (x : Result (Option State) Refusal)
     → turn start (val v) ≡ goes (leaves root v) (settle (opens root v ++ closing ∷ [])) → Weighs T ts r root v x → Agrees T ts start (val v) [] (begun (entered_at T r (val v)) x)
 begun-agrees T ts r v (Ok opened) is w = rw (replaced-settled opened) (value-turns T ts start (closing ∷ []) [] r root v opened is refl w)
 begun-agrees T ts r v (Err e) is w = rw is w
 
+-- a place other than the root's goes by what it waits for
+on-ahead : (ns : List Path) (s : State) (f : Place) → Placed ns s f → (deep : Bool) (T : Sheets) (c : Call) → onValue deep T s c ≡ onAhead deep T (ahead s) c
+on-ahead ns s (items p n) h deep T c = rw h.1
+on-ahead ns s (keys p n) h deep T c = rw h.1
+on-ahead ns s (vals p n) h deep T c = rw h.1
+on-ahead ns s (fields p i n) h deep T c = rw h.1
+on-ahead ns s (lone p n) h deep T c = rw h.1
+on-ahead ns s (only p) h deep T c = rw h.1
+on-ahead ns s closing h deep T c = rw h
+
 -- a call with the code's places open: the states s ∷ ss for the places fs
 stacked-agrees : Judges → Enters → (T : Sheets) (cs : List Call) → Accepted (sizesOf T) cs → Holds T (trace start cs) → (s : State) (ss : List State) (fs : List Place)
     → Stacked (nodesOf (trace start cs)) (s ∷ ss) fs → length (s ∷ ss) ≤ 32 → (c : Call) → Real c
     → Agrees T (trace start cs) fs c ss (outcome (isOpening c && eqb (length (s ∷ ss)) 32) T s c)
 stacked-agrees judges enters T cs a h s ss [] st l c real = absurd st
-stacked-agrees judges enters T cs a h s ss (f ∷ fs) st l (val v) real = go (next f) refl (waits (nodesOf (trace start cs)) s f st.0)
+stacked-agrees judges enters T cs a h s ss (f ∷ fs) st l (val v) real =
+    rw (on-ahead (nodesOf (trace start cs)) s f st.0 (isOpening (val v) && eqb (length (s ∷ ss)) 32) T (val v))
+    (go (ahead s) (next f) refl (leads (nodesOf (trace start cs)) s f st.0))
   where
-    go : (n : Next) → next f ≡ n → Waits (nodesOf (trace start cs)) s n
-        → Agrees T (trace start cs) (f ∷ fs) (val v) ss (onValue (isOpening (val v) && eqb (length (s ∷ ss)) 32) T s (val v))
-    go nowhere is w = rw w (rw is)
-    go (there p g) is (r, t, home, placed, w) = rw w (rw (← deep_is p v (length (s ∷ ss)) (g ∷ fs) l (length-stacked (nodesOf (trace start cs)) (s ∷ ss) (f ∷ fs) st)) (aux (tooMany (length (opens p v ++ g ∷ fs))) refl))
+    go : (x : Ahead) (n : Next) → next f ≡ n → Leads (nodesOf (trace start cs)) x n
+        → Agrees T (trace start cs) (f ∷ fs) (val v) ss (onAhead (isOpening (val v) && eqb (length (s ∷ ss)) 32) T x (val v))
+    go no_record nowhere is w = rw is
+    go no_record (there p g) is w = absurd w
+    go (at_record r t) nowhere is w = absurd w
+    go (at_record r t) (there p g) is (home, placed) = rw (← deep_is p v (length (s ∷ ss)) (g ∷ fs) l (length-stacked (nodesOf (trace start cs)) (s ∷ ss) (f ∷ fs) st)) (aux (tooMany (length (opens p v ++ g ∷ fs))) refl)
       where
         aux : (b : Bool) → tooMany (length (opens p v ++ g ∷ fs)) ≡ b
             → Agrees T (trace start cs) (f ∷ fs) (val v) ss (cond b (declined refusals.Depth) (counted t (entered_at T r (val v)) (entering T r (val v))))
@@ -175,19 +189,19 @@ open-agrees judges enters T cs a h s ss fs (inr st) l c real = stacked-agrees ju
 
 -- each call's outcome is the verdict of the definitions
 calling-agrees : Judges → Enters → (d : Desk) (cs : List Call) (c : Call) → Stands d cs → Real c
-    → Agrees (sheets d.tables) (trace start cs) (placesAfter start cs) c (rest (stack d.places d.depth)) (calling d c)
-calling-agrees judges enters d cs c st real = go d.depth refl
+    → Agrees (sheets d.tables) (trace start cs) (placesAfter start cs) c (rest (stack d.places)) (calling d c)
+calling-agrees judges enters d cs c st real = go d.places.depth refl
   where
-    go : (n : ℕ) → d.depth ≡ n → Agrees (sheets d.tables) (trace start cs) (placesAfter start cs) c (rest (stack d.places d.depth)) (calling d c)
+    go : (n : ℕ) → d.places.depth ≡ n → Agrees (sheets d.tables) (trace start cs) (placesAfter start cs) c (rest (stack d.places)) (calling d c)
     go zero e =
-        let none_open : placesAfter start cs ≡ [] = subst (λ n. Open (nodesOf (trace start cs)) (stack d.places n) (placesAfter start cs)) e st.opens in
+        let none_open : placesAfter start cs ≡ [] = subst (λ n. Open (nodesOf (trace start cs)) (levels d.places.table n) (placesAfter start cs)) e st.opens in
         rw e (rw none_open)
     go (suc n) e =
-        let here = subst (λ n. Open (nodesOf (trace start cs)) (stack d.places n) (placesAfter start cs)) e st.opens in
+        let here = subst (λ n. Open (nodesOf (trace start cs)) (levels d.places.table n) (placesAfter start cs)) e st.opens in
         let below : suc n - 1 ≡ n = omega arith in
         let some-open = ne_eqb (suc n) 0 (λ z. omega arith) in
-        rw (e, some-open, top, below, ← ap suc (length-stack d.places n))
-        (open-agrees judges enters (sheets d.tables) cs st.accepted st.holds (get_or d.places n (record { state = states.Root })).state (stack d.places n) (placesAfter start cs) here (omega (arith, length-stack d.places n, st.depth)) c real)
+        rw (e, some-open, top, below, ← ap suc (length-levels d.places.table n))
+        (open-agrees judges enters (sheets d.tables) cs st.accepted st.holds (get_or d.places.table n (waiting states.Root)).state (levels d.places.table n) (placesAfter start cs) here (omega (arith, length-levels d.places.table n, st.depth)) c real)
 
 -- ---- one call more
 
@@ -198,8 +212,8 @@ accepted-more sizes done (x ∷ cs) c a real e = (a.0, a.1, accepted-more sizes 
 
 -- what a call did, where its outcome is the verdict of the definitions
 told : (old new : Desk) (cs : List Call) (c : Call) (r : Result (Unit {0}) Refusal) (o : Outcome) → Stands old cs → Real c
-    → Agrees (sheets old.tables) (trace start cs) (placesAfter start cs) c (rest (stack old.places old.depth)) o → Did old new r o → Told old new cs c r
-told old new cs c r (declined e) st real a did = record { told = did.0 ∙ sym a; refused = λ _ _. did.1; taken = λ ok. let z : ◌≡◌ {A = ℕ} 0 1 = cc in absurd (omega arith) }
+    → Agrees (sheets old.tables) (trace start cs) (placesAfter start cs) c (rest (stack old.places)) o → Did old new r o → Told old new cs c r
+told old new cs c r (declined e) st real a did = record { told = did.0 ∙ sym a; refused = λ _ _. did.1; taken = λ ok. let z : ◌≡◌ {A = ℕ} 0 1 = cc in absurd (omega arith); sizes = ap (λ (d : Desk). sizesOf (sheets d.tables)) did.1 }
 told old new cs c r (moved s T opened) st real a did =
     record {
       told = did.0 ∙ sym a.accepted;
@@ -215,6 +229,7 @@ told old new cs c r (moved s T opened) st real a did =
             depth = did.3;
             places = did.4 ∙ st.places;
           };
+      sizes = ap sizesOf did.1 ∙ a.sizes;
     }
 
 -- a call tells the verdict of the definitions; refused, the writer is as it was; accepted, it stands for the list with this call added
@@ -231,10 +246,10 @@ kept judges enters old new c r real did h = ∥∥₁_elim h ∥∥₁_prop (λ 
     go cs st (Err e) is = ∣ (cs, subst (λ d. Stands d cs) (sym ((telling judges enters old new cs c r st real did).refused e is)) st) ∣₁
 
 -- no place is open exactly where none is for the definitions
-pub open_done : (d : Desk) (cs : List Call) → Stands d cs → (d.depth ≡ 0 ↔ placesAfter start cs ≡ [])
-open_done d cs st = (λ e. subst (λ n. Open (nodesOf (trace start cs)) (stack d.places n) (placesAfter start cs)) e st.opens, λ e. go d.depth e st.opens)
+pub open_done : (d : Desk) (cs : List Call) → Stands d cs → (d.places.depth ≡ 0 ↔ placesAfter start cs ≡ [])
+open_done d cs st = (λ e. subst (λ n. Open (nodesOf (trace start cs)) (levels d.places.table n) (placesAfter start cs)) e st.opens, λ e. go d.places.depth e st.opens)
   where
-    go : (n : ℕ) → placesAfter start cs ≡ [] → Open (nodesOf (trace start cs)) (stack d.places n) (placesAfter start cs) → n ≡ 0
+    go : (n : ℕ) → placesAfter start cs ≡ [] → Open (nodesOf (trace start cs)) (levels d.places.table n) (placesAfter start cs) → n ≡ 0
     go zero e o = refl
     go (suc n) e (inl o) = let z : ◌≡◌ {A = ℕ} 0 1 = cc in absurd (omega arith)
     go (suc n) e (inr o) = absurd (rw e at o)

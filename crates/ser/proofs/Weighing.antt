@@ -4,7 +4,7 @@ use Rattle.document.specs.declared.refusals.Refusal.{Refusal}
 use Rattle.document.specs.declared.refusals.Refusal.TheVariants as refusals
 use Rattle.document.specs.Calls.{Call}
 use Rattle.document.specs.Verdict.{first_of, highIndex, illFormed}
-use Rattle.ser.specs.declared.places.State.{State}
+use Rattle.nodes.specs.declared.places.State.{State}
 use Rattle.ser.specs.Brings.{branching, valueIn, loading, loadCells, loadExtent, lettersIn}
 use Rattle.ser.specs.Moves.{Sheets, branchIn, entered, enteredChild}
 use Rattle.ser.specs.Tables.{strangeAt, nodesFor, lacksNodes, lacksCells, lacksText, isTooLong, weighedAt}

@@ -1,9 +1,9 @@
 -- What the moves ask of the tables: bounds alone.
 use Rattle.std.specs.Prelude.{◌≡◌, ℕ, ◌+◌, ◌^◌, ◌<◌, ◌≤◌, true, cond, length, Option}
 use Rattle.document.specs.Calls.{Call}
-use Rattle.ser.specs.declared.records.Mark.{Mark}
+use Rattle.nodes.specs.declared.marks.Mark.{Mark}
+use Rattle.nodes.specs.Marks.{familyOf}
 use Rattle.ser.specs.declared.loads.Load.{Load}
-use Rattle.ser.specs.Marks.{familyOf}
 use Rattle.ser.specs.Brings.{marking, loading, branching, loadCells, loadExtent, lettersIn}
 use Rattle.ser.specs.Moves.{Sheets, node, isFresh}
 use Rattle.ser.specs.Tables.{newChild}

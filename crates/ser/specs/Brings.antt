@@ -1,13 +1,13 @@
 -- What a call brings to the node at which its value stands.
-use Rattle.std.specs.Prelude.{ℕ, zero, suc, Bool, true, false, List, [], length, Option, ◌==◌}
+use Rattle.std.specs.Prelude.{ℕ, Bool, true, false, List, [], length, Option, ◌==◌}
 use Rattle.std.specs.declared.option.Option.TheVariants as options
 use Rattle.document.specs.Calls.{Value, scalar, text, unit, none, some, variant, seq, map, tuple, kind, Call, val, end}
 use Rattle.document.specs.Tables.{lengthCells}
-use Rattle.ser.specs.declared.records.Mark.{Mark}
-use Rattle.ser.specs.declared.records.Mark.TheVariants.{Unmarked}
+use Rattle.nodes.specs.declared.marks.Mark.{Mark}
+use Rattle.nodes.specs.declared.marks.Mark.TheVariants.{Unmarked}
+use Rattle.nodes.specs.Marks.{mark_of}
 use Rattle.ser.specs.declared.loads.Load.{Load}
 use Rattle.ser.specs.declared.loads.Load.TheVariants.{Nothing, Number, Length}
-use Rattle.ser.specs.Marks.{mark_of}
 
 -- the value that a call says; `end` says none, and takes what a unit takes: nothing
 abbrev pub valueIn : Call → Value

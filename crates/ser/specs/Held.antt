@@ -1,40 +1,17 @@
 -- What the tables hold: every record in use, from what a list of calls leaves at the nodes.
-use Rattle.std.specs.Prelude.{◌≡◌, ℕ, zero, suc, ◌+◌, ◌<◌, ◌≤◌, Bool, true, false, cond, List, [], ◌∷◌, ◌++◌, map as each, length, take, drop, slice_index_or}
-use Rattle.chain.specs.declared.Chain.{Chain}
-use Rattle.chain.specs.Chains.{Runs, last_of}
+use Rattle.std.specs.Prelude.{◌≡◌, ℕ, zero, suc, ◌+◌, ◌<◌, ◌≤◌, Bool, false, List, [], ◌∷◌, ◌++◌, map as each, length, take, drop, slice_index_or}
 use Rattle.document.specs.Calls.{total, extent, cell, num, str}
-use Rattle.document.specs.Nodes.{Path, root, ◌▹◌, elem, key, value, field, alt, same}
+use Rattle.document.specs.Nodes.{Path, root, same}
 use Rattle.document.specs.Entries.{Entry, at}
 use Rattle.document.specs.Bytes.{firsts}
 use Rattle.document.specs.Tables.{cells, lettersOf}
 use Rattle.document.specs.Records.{nodesOf}
-use Rattle.ser.specs.declared.records.Mark.{Mark}
-use Rattle.ser.specs.Marks.{markAt}
+use Rattle.nodes.specs.declared.marks.Mark.{Mark}
+use Rattle.nodes.specs.Marks.{markAt}
+use Rattle.nodes.specs.Homes.{Home, ordinal, isChild, places, Threads}
 use Rattle.ser.specs.Moves.{Sheets, node, cell_at}
 
--- ---- which record is whose
-
--- the node that a record stands for, by the nodes in the order in which they got their records
-abbrev pub node_of : List Path → ℕ → Path
-node_of ns r = slice_index_or (root ∷ ns) r root
-
--- the record r is in use, and is the node p's
-abbrev pub Home : List Path → ℕ → Path → Type 0
-Home ns r p = (0 < r) × (r < 1 + length ns) × (node_of ns r ≡ p)
-
--- which child of its parent a node is
-abbrev pub ordinal : Path → ℕ
-ordinal root = 0
-ordinal (p ▹ elem) = 0
-ordinal (p ▹ key) = 0
-ordinal (p ▹ value) = 1
-ordinal (p ▹ field i) = i
-ordinal (p ▹ alt i) = i
-
--- whether a node is a child of p
-abbrev pub isChild : Path → Path → Bool
-isChild p root = false
-isChild p (q ▹ s) = same q p
+-- ---- which cell is whose
 
 -- what stands in a cell: a value; or nothing, where a length of 255 or more is charged a second one
 pub data Slot : Type 0 where
@@ -56,15 +33,6 @@ slots_of (e ∷ es) = slotted e (cells e.said) ++ slots_of es
 abbrev pub is_held : Path → Slot → Bool
 is_held p (holds e) = same e.node p
 is_held p spare = false
-
--- the places of those that pass the test, counted from i on
-abbrev pub places : {X : Type 0} → (X → Bool) → ℕ → List X → List ℕ
-places test i [] = []
-places test i (x ∷ xs) = cond (test x) (i ∷ places test (suc i) xs) (places test (suc i) xs)
-
--- the chain goes through exactly these records
-abbrev pub Threads : List ℕ → Chain → List ℕ → Type 0
-Threads nexts chain is = Runs nexts chain.first is × (last_of is ≡ chain.last)
 
 -- ---- what the records hold
 

@@ -1,4 +1,3 @@
-pub mod Marks
 pub mod Brings
 pub mod Moves
 pub mod Tables

@@ -1,18 +1,19 @@
 -- What the writer does to its tables, one move at a time. These mirror the code; what they come to is said in Holds.
-use Rattle.std.specs.Prelude.{ℕ, zero, suc, ◌+◌, Bool, true, false, cond, not, ◌&&◌, List, [], ◌∷◌, ◌++◌, map as each, length, get_or, vec_items, Option, ◌==◌, nat_lt, slice_index_or}
+use Rattle.std.specs.Prelude.{ℕ, zero, suc, ◌+◌, Bool, cond, List, map as each, length, vec_items, Option, ◌==◌, nat_lt, slice_index_or}
 use Rattle.std.specs.declared.option.Option.TheVariants as options
 use Rattle.column.specs.Interface.{overlaid}
 use Rattle.chain.specs.declared.Chain.{Chain}
 use Rattle.chain.specs.Chains.{adjust, appended, longer, course}
 use Rattle.document.specs.Calls.{scalar, text, unit, none, some, variant, seq, map, tuple, Call, val, end}
-use Rattle.ser.specs.declared.records.Mark.{Mark}
-use Rattle.ser.specs.declared.records.Mark.TheVariants as marks
+use Rattle.nodes.specs.declared.marks.Mark.{Mark}
+use Rattle.nodes.specs.declared.marks.Mark.TheVariants as marks
+use Rattle.nodes.specs.Marks.{markNumber, familyOf}
+use Rattle.nodes.specs.Children.{seek}
 use Rattle.ser.specs.declared.records.Node.{Node}
 use Rattle.ser.specs.declared.records.Cell.{Cell}
 use Rattle.ser.specs.declared.loads.Load.{Load}
 use Rattle.ser.specs.declared.loads.Load.TheVariants.{Nothing, Number, Length}
 use Rattle.ser.specs.declared.store.Tables.{Tables}
-use Rattle.ser.specs.Marks.{markNumber, familyOf}
 use Rattle.ser.specs.Brings.{marking, loading, branching, is_lone}
 
 -- ---- records
@@ -152,14 +153,9 @@ lettered end T = T
 
 -- ---- the child of an index
 
--- the first of these records that has the index, 0 where there is none
-abbrev pub seek : List Node → ℕ → List ℕ → ℕ
-seek ns i [] = 0
-seek ns i (k ∷ ks) = cond ((get_or ns k blankNode).index == i) k (seek ns i ks)
-
 -- the child of r with the index
 abbrev pub childOf : Sheets → ℕ → ℕ → ℕ
-childOf T r i = seek T.nodes i (course (each (λ n. n.next) T.nodes) (node T r).children.first)
+childOf T r i = seek (each (λ n. n.index) T.nodes) i (course (each (λ n. n.next) T.nodes) (node T r).children.first)
 
 -- the child of an index that a call has
 abbrev pub branchIn : Sheets → ℕ → Option ℕ → ℕ

@@ -1,6 +1,6 @@
 -- Write-out: the bytes of the marked nodes, as the tables hold them, and what keeps the code within its buffers.
 use Rattle.std.specs.Prelude.{◌≡◌, ℕ, zero, suc, ◌+◌, ◌<◌, ◌≤◌, Bool, cond, ◌&&◌, List, [], ◌++◌, map as each, length, take, drop, replicate, Ok, Err, Result, nat_le, slice_index_or}
-use Rattle.std.specs.List.{AllByRecursion as All}
+use Rattle.std.specs.List.{AllByRecursion}
 use Rattle.column.specs.Widths.{Below}
 use Rattle.column.specs.Meaning.{Meaning}
 use Rattle.column.specs.Interface.{overlaid, Written}
@@ -10,8 +10,8 @@ use Rattle.document.specs.declared.refusals.Refusal.{Refusal}
 use Rattle.document.specs.declared.refusals.Refusal.TheVariants as refusals
 use Rattle.document.specs.Calls.{width}
 use Rattle.document.specs.Columns.{lengthBytes, joined}
-use Rattle.ser.specs.declared.records.Mark.{Mark}
-use Rattle.ser.specs.declared.records.Mark.TheVariants as marks
+use Rattle.nodes.specs.declared.marks.Mark.{Mark}
+use Rattle.nodes.specs.declared.marks.Mark.TheVariants as marks
 use Rattle.ser.specs.declared.records.Node.{Node}
 use Rattle.ser.specs.declared.records.Cell.{Cell}
 use Rattle.ser.specs.Moves.{Sheets, node, blankCell}
@@ -87,7 +87,7 @@ FitsMark (marks.Tuple n) vs = Unit {0}
 
 -- the pieces of cells lie within the text
 abbrev pub Pieces : List Cell → List ℕ → List ℕ → Type 0
-Pieces cs text ks = All (λ k. start_at cs k + value_at cs k ≤ length text) ks
+Pieces cs text ks = AllByRecursion (λ k. start_at cs k + value_at cs k ≤ length text) ks
 
 -- .. where the mark is a text's
 abbrev pub PiecesBy : Mark → List Cell → List ℕ → List ℕ → Type 0

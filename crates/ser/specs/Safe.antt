@@ -1,11 +1,10 @@
 -- What keeps the code within its tables: bounds alone, which follow from what the tables hold.
 use Rattle.std.specs.Prelude.{◌≡◌, ℕ, ◌+◌, ◌<◌, ◌≤◌, true, length}
 use Rattle.document.specs.Columns.{limit}
-use Rattle.ser.specs.declared.places.State.{State}
-use Rattle.ser.specs.declared.places.State.TheVariants.{Root, Items, Keys, Vals, Fields, Lone, One, Closing}
+use Rattle.nodes.specs.Stack.{top}
+use Rattle.nodes.specs.Ahead.{Aims}
 use Rattle.ser.specs.declared.desk.Desk.{Desk}
 use Rattle.ser.specs.Moves.{Sheets, sheets, node, isFresh, childOf}
-use Rattle.ser.specs.Steps.{top}
 
 -- of one record in use: its sum, the ends of its chains, and, without a value, that it has no child and that there is room in the order of marking
 pub record RowSafe (T : Sheets) (r : ℕ) : Type 0 where
@@ -27,20 +26,9 @@ pub record RowsSafe (T : Sheets) : Type 0 where
   pub few-marked : T.marked < T.used
   pub rows : (r : ℕ) → 0 < r → r < T.used → RowSafe T r
 
--- the record where a place has its next value is in use
-abbrev pub Aims : ℕ → State → Type 0
-Aims used Root = Unit {0}
-Aims used (Items r n) = (0 < r) × (r < used)
-Aims used (Keys r n) = (0 < r) × (r < used)
-Aims used (Vals r n) = r + 1 < used
-Aims used (Fields r n) = 1 ≤ n → (0 < r) × (r < used)
-Aims used (Lone r n) = (0 < r) × (r < used)
-Aims used (One r) = (0 < r) × (r < used)
-Aims used Closing = Unit {0}
-
 -- of the tables and the places
 pub record Safe (d : Desk) : Type 0 where
   pub tables : RowsSafe (sheets d.tables)
-  pub depth : d.depth ≤ 32
-  pub places : 32 ≤ length d.places
-  pub aims : 0 < d.depth → Aims d.tables.used (top d)
+  pub depth : d.places.depth ≤ 32
+  pub places : 32 ≤ length d.places.table
+  pub aims : 0 < d.places.depth → Aims d.tables.used (top d.places)

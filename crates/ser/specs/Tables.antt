@@ -1,15 +1,14 @@
 -- The verdict on a value at a record of the tables: the same tests as the definitions', in the same order, asked of the tables.
-use Rattle.std.specs.Prelude.{ℕ, ◌+◌, min, Bool, true, false, cond, not, ◌&&◌, ◌||◌, List, [], ◌∷◌, length, Option, Result, ◌==◌, nat_le, nat_lt}
+use Rattle.std.specs.Prelude.{ℕ, ◌+◌, min, Bool, false, cond, not, ◌&&◌, ◌||◌, [], ◌∷◌, length, Option, Result, ◌==◌, nat_le, nat_lt}
 use Rattle.std.specs.declared.option.Option.TheVariants as options
 use Rattle.document.specs.declared.refusals.Refusal.{Refusal}
 use Rattle.document.specs.declared.refusals.Refusal.TheVariants as refusals
 use Rattle.document.specs.Calls.{scalar, text, unit, none, some, variant, seq, map, tuple, Call, val, end}
 use Rattle.document.specs.Columns.{limit}
 use Rattle.document.specs.Verdict.{Sizes, first_of, highIndex, illFormed}
-use Rattle.ser.specs.declared.records.Mark.{Mark}
-use Rattle.ser.specs.declared.records.Mark.TheVariants as marks
-use Rattle.ser.specs.declared.store.Tables.{Tables}
-use Rattle.ser.specs.Marks.{markNumber, familyOf}
+use Rattle.nodes.specs.declared.marks.Mark.{Mark}
+use Rattle.nodes.specs.declared.marks.Mark.TheVariants as marks
+use Rattle.nodes.specs.Marks.{markNumber, familyOf}
 use Rattle.ser.specs.Brings.{valueIn, marking, loading, loadCells, loadExtent, lettersIn, branching, is_lone}
 use Rattle.ser.specs.Moves.{Sheets, node, isFresh}
 

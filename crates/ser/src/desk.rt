@@ -1,14 +1,13 @@
 //! The tables and the open places of a writer.
 
-use crate::places::Place;
 use crate::store::Tables;
+use nodes::places::Places;
 
-/// A writer's tables, and its open places: the first `depth` of `places`, the innermost last. No place is open once the document is complete.
+/// A writer's tables, and its open places.
 #[derive(Drop)]
 pub(crate) struct Desk {
     pub(crate) tables: Tables,
-    pub(crate) places: [Place; 32],
-    pub(crate) depth: usize,
+    pub(crate) places: Places,
 }
 
 mod step;

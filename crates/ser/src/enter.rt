@@ -7,7 +7,7 @@ ghost use Rattle.document.specs.Columns.{limit};
 ghost use Rattle.document.specs.Verdict.{highIndex, illFormed};
 ghost use Rattle.document.specs.Calls.{val, none};
 ghost use Rattle.document.specs.Said.{said};
-ghost use Rattle.ser.specs.declared.records.Mark.TheVariants.{Unit as unitMark};
+ghost use Rattle.nodes.specs.declared.marks.Mark.TheVariants.{Unit as unitMark};
 ghost use Rattle.ser.specs.Steps.{openedAt, entering, entered_at};
 ghost use Rattle.ser.specs.Safe.{RowsSafe};
 ghost use Rattle.ser.specs.Brings.{valueIn, loadCells, loadExtent, loading, lettersIn, is_lone};
@@ -16,12 +16,14 @@ ghost use Rattle.ser.specs.Bounds.{GrowSafe, TouchSafe, BranchSafe, KeepSafe, Pu
 ghost use Rattle.ser.specs.Tables.{isOther, noUnit, strangeAt, nodesFor, lacksNodes, lacksCells, lacksText, isTooLong, weighedAt};
 
 use crate::loads::{Load, index_of, is_lone, load_of, mark_of};
-use crate::places::State;
-use crate::records::{Cell, Mark, Node};
+use crate::records::{Cell, Node};
 use crate::store::Tables;
-use chain::{Chain, Linked, append, walk};
+use chain::{Chain, Linked, append};
 use document::calls::Call;
 use document::refusals::Refusal;
+use nodes::children::find;
+use nodes::marks::Mark;
+use nodes::places::State;
 use utf8::well_formed;
 
 /// No more of the tables is used than this.
@@ -126,12 +128,7 @@ impl Tables {
     fn child(&self, r: usize, index: u32) -> usize
         ensures { result ≡ childOf (sheets self.now) r index }
     {
-        for k in walk(&self.nodes, self.look(r).children) {
-            if self.look(k).index == index {
-                return k;
-            }
-        }
-        0
+        find(&self.nodes, self.look(r).children, index)
     }
 
     /// The record of the child with this index, 0 where there is none, or no index.

@@ -5,8 +5,8 @@ ghost use Rattle.document.specs.Said.{said};
 ghost use Rattle.document.specs.Verdict.{Real};
 ghost use Rattle.ser.specs.Brings.{marking, loading, branching, is_lone, isOpening};
 
-use crate::records::Mark;
 use document::calls::Call;
+use nodes::marks::Mark;
 
 /// What a node keeps of a call: nothing, a number, or a length.
 #[derive(Clone, Copy)]

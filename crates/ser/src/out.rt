@@ -7,11 +7,12 @@ ghost use Rattle.document.specs.Columns.{short, longs, lengthBytes, joined};
 ghost use Rattle.ser.specs.Moves.{sheets, node};
 ghost use Rattle.ser.specs.Out.{inChain, values_of, pieces_of, nodeImage, ordered, image_of, Pieces, NodeSafe, OutSafe, ending, Put, Wrote};
 
-use crate::records::{Cell, Mark, Node};
+use crate::records::{Cell, Node};
 use crate::store::Tables;
 use chain::{Chain, walk};
 use column::interface::Column;
 use document::refusals::Refusal;
+use nodes::marks::Mark;
 
 /// A length from here on stands in the second length column.
 const LONG: u64 = 255;

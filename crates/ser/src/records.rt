@@ -1,25 +1,12 @@
 //! The records of the writer's tables.
 
-ghost use Rattle.std.specs.Prelude.{◌≡◌, ◌==◌};
-ghost use Rattle.ser.specs.Marks.{markNumber, familyOf};
+ghost use Rattle.std.specs.Prelude.{◌≡◌};
 ghost use Rattle.ser.specs.Moves.{blankNode, blankCell};
 ghost use Rattle.std.proofs.Common.{rules};
 
 use chain::{Chain, Linked};
-use document::scalars::Scalar;
-
-/// What a node is marked as by the first value that stands there.
-#[derive(Clone, Copy)]
-pub(crate) enum Mark {
-    Unmarked,
-    Scalar(Scalar),
-    Text,
-    Seq,
-    Map,
-    Enum,
-    Unit,
-    Tuple(u32),
-}
+use nodes::children::Indexed;
+use nodes::marks::Mark;
 
 /// A record of the node table. Its contents are the writer's own.
 #[derive(Clone, Copy)]
@@ -95,6 +82,14 @@ impl Linked for Node {
     }
 }
 
+impl Indexed for Node {
+    ghost indexOf = { λ n. n.index };
+
+    fn index(&self) -> u32 {
+        self.index
+    }
+}
+
 impl Linked for Cell {
     ghost nextOf = { λ c. c.next };
 
@@ -108,51 +103,5 @@ impl Linked for Cell {
 
     fn link(&mut self, next: usize) {
         self.next = next;
-    }
-}
-
-impl Mark {
-    /// Marks by number, each its own.
-    fn number(self) -> u64
-        ensures { result ≡ markNumber self }
-    {
-        match self {
-            Mark::Unmarked => 0,
-            Mark::Scalar(Scalar::Bool) => 1,
-            Mark::Scalar(Scalar::U8) => 2,
-            Mark::Scalar(Scalar::U16) => 3,
-            Mark::Scalar(Scalar::U32) => 4,
-            Mark::Scalar(Scalar::U64) => 5,
-            Mark::Scalar(Scalar::I8) => 6,
-            Mark::Scalar(Scalar::I16) => 7,
-            Mark::Scalar(Scalar::I32) => 8,
-            Mark::Scalar(Scalar::I64) => 9,
-            Mark::Scalar(Scalar::F32) => 10,
-            Mark::Text => 11,
-            Mark::Seq => 12,
-            Mark::Map => 13,
-            Mark::Enum => 14,
-            Mark::Unit => 15,
-            Mark::Tuple(n) => 16 + u64::from(n),
-        }
-    }
-
-    /// Whether two marks are the same.
-    pub(crate) fn is(self, other: Mark) -> bool
-        ensures { result ≡ (markNumber self == markNumber other) }
-    {
-        self.number() == other.number()
-    }
-
-    /// How many children come with the mark.
-    pub(crate) fn family(self) -> u32
-        ensures { result ≡ familyOf self }
-    {
-        match self {
-            Mark::Seq => 1,
-            Mark::Map => 2,
-            Mark::Tuple(n) => n,
-            _ => 0,
-        }
     }
 }

@@ -2,7 +2,7 @@
 use Rattle.std.proofs.Common.{◌≡◌, ℕ, ◌<◌, true, cond, eqb, List, [], ◌∷◌, ◌++◌, map, length, get_or, set, Ok, Err, Result, sym, ap, ◌∙◌, subst, arith, length-set}
 use Rattle.std.proofs.lemmas.List.{length-map}
 use Rattle.std.proofs.lemmas.Bool.{cond-true, cond-false, eq-eqb, ne_eqb}
-use Rattle.std.specs.List.{AllByRecursion as All}
+use Rattle.std.specs.List.{AllByRecursion}
 use Rattle.chain.specs.declared.Chain.{Chain}
 use Rattle.chain.specs.declared.Fault.{Fault}
 use Rattle.chain.specs.declared.Fault.TheVariants.{Outside}
@@ -29,7 +29,7 @@ module _ {R : Type 0} (nextOf : R → ℕ) (withNext : R → ℕ → R) (linked 
   nexts : map nextOf exit ≡ appended (λ _ n. n) (map nextOf table) chain.last place 0
   nexts = ap (map nextOf) ex ∙ nexts-appended withNext table chain.last place new nextOf linked
 
-  lengthens : (is : List ℕ) → Runs (map nextOf table) chain.first is → last_of is ≡ chain.last → All (λ i. i < place) is → Runs (map nextOf exit) head (is ++ place ∷ [])
+  lengthens : (is : List ℕ) → Runs (map nextOf table) chain.first is → last_of is ≡ chain.last → AllByRecursion (λ i. i < place) is → Runs (map nextOf exit) head (is ++ place ∷ [])
   lengthens is h e below =
       let P : List ℕ → Type 0 = λ ms. Runs ms head (is ++ place ∷ []) in
       let Q : ℕ → Type 0 = λ k. Runs (appended (λ _ n. n) (map nextOf table) chain.last place 0) k (is ++ place ∷ []) in
@@ -57,7 +57,7 @@ returns-then-chain-eq0 g c =
     let t = c.args.table.now in
     let chain = c.args.chain in
     let place = c.args.place in
-    let new = c.args.record in
+    let new = c.args.fresh in
     let p : 0 < place = omega arith in
     let q : place < length t = omega arith in
     let l : chain.last < length t = omega arith in
@@ -80,7 +80,7 @@ returns g c =
     let t = c.args.table.now in
     let chain = c.args.chain in
     let place = c.args.place in
-    let new = c.args.record in
+    let new = c.args.fresh in
     let p : 0 < place = omega arith in
     let q : place < length t = omega arith in
     let l : chain.last < length t = omega arith in

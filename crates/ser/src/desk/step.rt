@@ -3,59 +3,40 @@
 ghost use Rattle.std.specs.Prelude.{◌≡◌, ◌+◌, ◌<◌, ◌≤◌, [], length};
 ghost use Rattle.document.specs.Said.{said};
 ghost use Rattle.document.specs.Verdict.{Real};
+ghost use Rattle.nodes.specs.Stack.{stack, top, opening};
 ghost use Rattle.ser.specs.Moves.{sheets};
-ghost use Rattle.ser.specs.Steps.{stack, settled, opening, top, outcome, calling, Took, Did};
+ghost use Rattle.ser.specs.Steps.{outcome, calling, Took, Did};
 ghost use Rattle.ser.specs.Safe.{Safe};
 
 use super::Desk;
 use crate::loads::is_opening;
-use crate::places::{Place, State};
 use document::calls::Call;
 use document::refusals::Refusal;
-
-/// At most so many places are open.
-const MOST_OPEN: usize = 32;
+use nodes::places::{MOST_OPEN, State};
 
 impl Desk {
-    /// Places close with their one value.
-    fn settle(&mut self)
-        requires { self.old.depth ≤ 32 }
-        ensures states { stack self.new.places self.new.depth ≡ settled (stack self.old.places self.old.depth) }
-        ensures depth { self.new.depth ≤ self.old.depth }
-        ensures places { self.new.places ≡ self.old.places }
-        ensures tables { self.new.tables ≡ self.old.tables }
-    {
-        while self.depth > 0 {
-            let state = self.places[self.depth - 1].state;
-            match state {
-                State::Closing => self.depth -= 1,
-                _ => return,
-            }
-        }
-    }
-
     /// A place is opened, where the value opens one.
     fn open(&mut self, opened: Option<State>)
-        requires room { length (opening opened []) + self.old.depth ≤ 32 }
-        requires places { 32 ≤ length self.old.places }
-        ensures states { stack self.new.places self.new.depth ≡ opening opened (stack self.old.places self.old.depth) }
-        ensures depth { self.new.depth ≤ 32 }
-        ensures places { length self.new.places ≡ length self.old.places }
+        requires room { length (opening opened []) + self.old.places.depth ≤ 32 }
+        ensures states { stack self.new.places ≡ opening opened (stack self.old.places) }
+        ensures table { length self.new.places.table ≡ length self.old.places.table }
         ensures tables { self.new.tables ≡ self.old.tables }
     {
         if let Some(state) = opened {
-            self.places[self.depth] = Place { state };
-            self.depth += 1;
+            match self.places.open(state) {
+                Ok(()) => {}
+                Err(_) => unreachable(),
+            }
         }
     }
 
     /// The step: what the call does to the innermost place, and to the tables.
     fn take(&mut self, call: Call, deep: bool) -> Result<Option<State>, Refusal>
         requires safe { Safe self.old }
-        requires some { 0 < self.old.depth }
-        ensures { Took self.old self.new result (outcome deep (sheets self.old.tables) (top self.old) (said call.entry)) }
+        requires some { 0 < self.old.places.depth }
+        ensures { Took self.old self.new result (outcome deep (sheets self.old.tables) (top self.old.places) (said call.entry)) }
     {
-        let place = &mut self.places[self.depth - 1];
+        let place = &mut self.places.table[self.places.depth - 1];
         match (&mut place.state, call) {
             (
                 State::Items { left: 0, .. }
@@ -132,13 +113,13 @@ impl Desk {
         ensures did { Did self.old self.new result (calling self.old (said call.entry)) }
         ensures real { Real (said call.entry) }
     {
-        let deep = is_opening(call) && self.depth == MOST_OPEN;
-        if self.depth == 0 {
+        let deep = is_opening(call) && self.places.depth == MOST_OPEN;
+        if self.places.depth == 0 {
             return Err(Refusal::Complete);
         }
         let opened = self.take(call, deep)?;
         self.open(opened);
-        self.settle();
+        self.places.settle();
         Ok(())
     }
 }

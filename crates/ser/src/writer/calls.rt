@@ -8,12 +8,12 @@ ghost use Rattle.ser.specs.Standing.{Stands, Told, WrittenOut};
 
 use super::{Closed, Writer};
 use crate::desk::Desk;
-use crate::places::{Place, State};
 use crate::records::{Cell, Node};
 use crate::store::Tables;
 use column::interface::Column;
 use document::calls::Call;
 use document::refusals::Refusal;
+use nodes::places::Places;
 
 /// The tables of a writer, as its caller gets them back.
 #[derive(Drop)]
@@ -52,11 +52,9 @@ impl Writer {
             filled: 0,
             marked: 0,
         };
-        let places = [Place { state: State::Root }; 32];
         let desk = Desk {
             tables,
-            places,
-            depth: 1,
+            places: Places::start(),
         };
         Writer { desk }
     }
@@ -93,7 +91,7 @@ impl Closed {
     {
         self.desk
             .tables
-            .write_out(self.desk.depth == 0, kind, scratch, output)
+            .write_out(self.desk.places.depth == 0, kind, scratch, output)
     }
 
     /// The tables, for the next writer.
@@ -103,11 +101,7 @@ impl Closed {
         ensures text { result.text ≡ self.desk.tables.text }
     {
         let Closed { desk } = self;
-        let Desk {
-            tables,
-            places: _,
-            depth: _,
-        } = desk;
+        let Desk { tables, places: _ } = desk;
         let Tables {
             nodes,
             cells,

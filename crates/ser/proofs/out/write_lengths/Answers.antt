@@ -1,5 +1,5 @@
 use Rattle.std.proofs.Common.{map, sym, refl}
-use Rattle.column.specs.Choice.{passed_on}
+use Rattle.column.proofs.Choice.{passed_on}
 use Rattle.document.specs.Columns.{short, longs}
 use Rattle.ser.specs.Out.{values_of}
 use Rattle.ser.proofs.Outputs.{put_then, put-stop, put_as}

@@ -1,7 +1,7 @@
 use Rattle.std.proofs.Common.{ℕ, List, sym, refl, ap, ⊎_elim}
-use Rattle.column.specs.Choice.{passed_on}
+use Rattle.column.proofs.Choice.{passed_on}
 use Rattle.document.specs.Columns.{lengthBytes, joined}
-use Rattle.ser.specs.declared.records.Mark.{Mark}
+use Rattle.nodes.specs.declared.marks.Mark.{Mark}
 use Rattle.ser.specs.Out.{values_of, pieces_of, imageBy}
 use Rattle.ser.proofs.Outputs.{put-none, put_then, put-stop, put_as}
 use Rattle.ser.proofs.out.write_node.Goals as goal

@@ -2,7 +2,7 @@ use Rattle.std.proofs.Common.{◌≡◌, ℕ, ◌+◌, ◌-◌, List, map, take,
 use Rattle.chain.specs.Chains.{course}
 use Rattle.chain.specs.Walks.{place_of}
 use Rattle.chain.proofs.Courses.{walk_turn, walk_end}
-use Rattle.column.specs.Choice.{passed_on}
+use Rattle.column.proofs.Choice.{passed_on}
 use Rattle.document.specs.Columns.{joined}
 use Rattle.ser.specs.declared.records.Cell.{Cell}
 use Rattle.ser.specs.Out.{piece_at, start_at, value_at, Pieces}

@@ -1,5 +1,5 @@
 use Rattle.std.proofs.Common.{rules}
-use Rattle.ser.proofs.Stacked.{replaced-or}
+use Rattle.nodes.proofs.Stacked.{replaced-or}
 use Rattle.ser.proofs.desk.Desk.take.Goals as goal
 
 pub returns-in_ok-opened-in-Root-default : goal.returns-in_ok-opened-in-Root-default

@@ -2,8 +2,9 @@ use Rattle.std.proofs.Common.{◌+◌, ap, ◌∙◌, ap₂}
 use Rattle.std.specs.Vec.{with_items}
 use Rattle.std.proofs.lemmas.List.{get_or_read_under}
 use Rattle.chain.specs.Chains.{adjust, appended, longer}
+use Rattle.nodes.proofs.Refill.{refill}
 use Rattle.ser.specs.Moves.{blankNode, cellWithNext, withCells, with_sum}
-use Rattle.ser.proofs.Refill.{refill, sheetsOf}
+use Rattle.ser.proofs.Sheets.{sheetsOf}
 use Rattle.ser.proofs.store.Tables.add_cell.Goals as goal
 
 -- the new cell is the last of r's chain, and the sum of r grows

@@ -1,8 +1,9 @@
 use Rattle.std.proofs.Common.{◌+◌, ap, ◌∙◌}
 use Rattle.std.specs.Vec.{with_items}
 use Rattle.chain.specs.Chains.{adjust}
+use Rattle.nodes.proofs.Refill.{refill}
 use Rattle.ser.specs.Moves.{withMark, withOrder}
-use Rattle.ser.proofs.Refill.{refill, sheetsOf}
+use Rattle.ser.proofs.Sheets.{sheetsOf}
 use Rattle.ser.proofs.store.Tables.name.Goals as goal
 
 -- the mark is written, and then the order

@@ -1,6 +1,7 @@
 use Rattle.std.proofs.Common.{◌+◌, length, ap}
 use Rattle.column.specs.Interface.{overlaid}
-use Rattle.ser.proofs.Refill.{refill, sheetsOf}
+use Rattle.nodes.proofs.Refill.{refill}
+use Rattle.ser.proofs.Sheets.{sheetsOf}
 use Rattle.ser.proofs.store.Tables.write.Goals as goal
 
 -- the bytes are laid over the text from the first free place on

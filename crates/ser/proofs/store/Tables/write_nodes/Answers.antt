@@ -2,7 +2,7 @@ use Rattle.std.proofs.Common.{◌≡◌, ℕ, zero, suc, ◌+◌, ◌≤◌, Lis
 use Rattle.std.proofs.lemmas.Bool.{cases_eq}
 use Rattle.column.specs.Meaning.{Meaning}
 use Rattle.column.specs.Interface.{Written}
-use Rattle.column.specs.Choice.{passed_on}
+use Rattle.column.proofs.Choice.{passed_on}
 use Rattle.document.specs.declared.refusals.Refusal.{Refusal}
 use Rattle.ser.specs.declared.records.Node.{Node}
 use Rattle.ser.specs.declared.records.Cell.{Cell}
