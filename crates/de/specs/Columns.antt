@@ -1,0 +1,84 @@
+-- Reading a node's columns into a table of slots: how far it came, and what stands in the slots then.
+use Rattle.std.specs.Prelude.{◌≡◌, ℕ, ◌+◌, ◌-◌, ◌<◌, ◌≤◌, min, List, map as each, length, take, drop, Ok, Err, Result}
+use Rattle.std.specs.List.{AllByRecursion}
+use Rattle.column.specs.declared.fault.Fault.{Fault}
+use Rattle.document.specs.declared.refusals.Refusal.{Refusal}
+use Rattle.document.specs.Refusals.{ofFault}
+use Rattle.document.specs.Calls.{total, Kind, SCALAR, TEXT, SEQ, MAP, ENUM, UNIT, TUPLE, Cell, num, str}
+use Rattle.document.specs.Columns.{sum}
+use Rattle.document.specs.Fetch.{Supply, supply, Fetched, fetched, columnsOf}
+use Rattle.de.specs.declared.columns.Spot.{Spot}
+use Rattle.de.specs.declared.columns.Gain.{Gain}
+
+-- a column's answer, with the column's number in its refusal
+abbrev pub numbered : ℕ → Result ℕ Fault → Result ℕ Refusal
+numbered column (Ok n) = Ok n
+numbered column (Err f) = Err (ofFault f column)
+
+-- ---- how far reading came
+
+-- how many slots of a table can be used
+abbrev pub usable : ℕ → ℕ
+usable size = min size 1048576
+
+-- a spot lies within the slots that can be used, and within the input
+pub record Within (room : ℕ) (input : List ℕ) (spot : Spot) : Type 0 where
+  pub taken : spot.taken ≤ room
+  pub place : spot.place ≤ length input
+
+-- what is left at a spot
+abbrev pub left_at : ℕ → List ℕ → Spot → Supply
+left_at room input spot = supply (room - spot.taken) (drop spot.place input)
+
+-- what is told is that something was read, of which this holds, from one spot up to another
+pub record Reads {X : Type 0} (room : ℕ) (input : List ℕ) (spot next : Spot) (told : Fetched X) (Holds : X → Type 0) : Type 0 where
+  pub what : X
+  pub is : told ≡ fetched what (left_at room input next)
+  pub within : Within room input next
+  pub taken : spot.taken ≤ next.taken
+  pub place : spot.place ≤ next.place
+  pub holds : Holds what
+
+-- ---- what the slots hold then
+
+-- these are n values, and they stand in the first of the slots that were taken between two spots
+pub record Stored (n : ℕ) (slots : List ℕ) (spot next : Spot) (values : List ℕ) : Type 0 where
+  pub count : length values ≡ n
+  pub taken : spot.taken + n ≤ next.taken
+  pub stand : take n (drop spot.taken slots) ≡ values
+
+-- a column's numbers, which take all these slots
+abbrev pub NumbersStored : ℕ → List ℕ → Spot → Spot → List ℕ → Type 0
+NumbersStored n slots spot next ns = Stored n slots spot next ns × (next.taken ≡ spot.taken + n)
+
+-- the numbers of a node of one column, none of which is a length
+abbrev pub SingleStored : ℕ → List ℕ → Spot → Gain → List ℕ → Type 0
+SingleStored n slots spot gain ns = Stored n slots spot gain.spot ns × (gain.sum ≡ 0)
+
+-- a node's lengths, and their sum
+abbrev pub LengthsStored : ℕ → List ℕ → Spot → Gain → List ℕ → Type 0
+LengthsStored n slots spot gain ns = Stored n slots spot gain.spot ns × (gain.sum ≡ sum ns)
+
+-- the lengths of a node's texts, and their sum; so many bytes were read of the input at least
+pub record TextsStored (n : ℕ) (slots : List ℕ) (spot : Spot) (gain : Gain) (ts : List (List ℕ)) : Type 0 where
+  pub stored : Stored n slots spot gain.spot (each length ts)
+  pub sum-is : gain.sum ≡ sum (each length ts)
+  pub place : spot.place + gain.sum ≤ gain.spot.place
+
+-- the sum of a node's lengths, 0 where its values have none
+abbrev pub lengthsOf : Kind → List Cell → ℕ
+lengthsOf (SCALAR k) cs = 0
+lengthsOf TEXT cs = total num cs
+lengthsOf SEQ cs = total num cs
+lengthsOf MAP cs = total num cs
+lengthsOf ENUM cs = 0
+lengthsOf UNIT cs = 0
+lengthsOf (TUPLE n) cs = 0
+
+-- a node's n cells: the numbers of a kind with columns, and the sum of lengths; a text's number is its length, and so many bytes were read at least
+pub record CellsStored (K : Kind) (n : ℕ) (slots : List ℕ) (spot : Spot) (gain : Gain) (cs : List Cell) : Type 0 where
+  pub count : length cs ≡ n
+  pub stored : 0 < columnsOf K → Stored n slots spot gain.spot (each num cs)
+  pub sum-is : gain.sum ≡ lengthsOf K cs
+  pub letters : K ≡ TEXT → AllByRecursion (λ c. num c ≡ length (str c)) cs
+  pub place : K ≡ TEXT → spot.place + gain.sum ≤ gain.spot.place

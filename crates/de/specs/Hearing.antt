@@ -1,0 +1,44 @@
+-- The answer that a node's next value makes.
+use Rattle.std.specs.Prelude.{◌≡◌, ℕ, ◌+◌, ◌<◌, ◌≤◌, List, [], ◌∷◌, length, Err, Result, slice_index}
+use Rattle.document.specs.declared.refusals.Refusal.{Refusal}
+use Rattle.document.specs.declared.refusals.Refusal.TheVariants as refusals
+use Rattle.document.specs.declared.questions.Answer.{Answer}
+use Rattle.document.specs.declared.questions.Question.{Question}
+use Rattle.document.specs.declared.questions.Question.TheVariants as questions
+use Rattle.document.specs.Calls.{Cell}
+use Rattle.document.specs.Reader.{Ask, worthOf}
+use Rattle.de.specs.declared.records.Node.{Node}
+use Rattle.de.specs.Moves.{Sheets}
+use Rattle.de.specs.Asked.{Fitting, Sized}
+use Rattle.de.specs.Answered.{Worthy}
+
+-- the number of the node's next value
+abbrev pub nextNumber : Sheets → Node → ℕ
+nextNumber T x = slice_index T.slots (x.first + x.done)
+
+-- the next value stands in the slots and fits the question
+abbrev pub Stands : Sheets → Node → Question → Type 0
+Stands T x (questions.Scalar k) = (x.first + x.done < length T.slots) × Fitting (questions.Scalar k) (nextNumber T x)
+Stands T x questions.Text = x.first + x.done < length T.slots
+Stands T x questions.Unit = Unit {0}
+Stands T x questions.Option = x.first + x.done < length T.slots
+Stands T x questions.Variant = (x.first + x.done < length T.slots) × Fitting questions.Variant (nextNumber T x)
+Stands T x (questions.Seq flag) = x.first + x.done < length T.slots
+Stands T x (questions.Map flag) = x.first + x.done < length T.slots
+Stands T x (questions.Tuple n) = Unit {0}
+Stands T x questions.End = Unit {0}
+
+-- what hearing asks: bounds alone
+pub record HearSafe (T : Sheets) (x : Node) (q : Question) : Type 0 where
+  pub left : x.done ≤ x.count
+  pub stands : x.done < x.count → Stands T x q
+
+-- these cells of the node are left
+abbrev pub HeardIn : Sheets → Node → Ask → List Cell → Type 0
+HeardIn T x a [] = x.done ≡ x.count
+HeardIn T x a (c ∷ cs) = (x.done < x.count) × Sized a c (nextNumber T x)
+
+-- what their first is worth
+abbrev pub Heard : Ask → List Cell → ℕ → Result Answer Refusal → Type 0
+Heard a [] place res = res ≡ Err refusals.Count
+Heard a (c ∷ cs) place res = Worthy (worthOf a c) place res

@@ -1,0 +1,12 @@
+pub mod Moves
+pub mod Columns
+pub mod Asked
+pub mod Answered
+pub mod Reads
+pub mod Served
+pub mod Viewed
+pub mod Taken
+pub mod Hearing
+pub mod Steps
+pub mod Standing
+pub mod Readers

@@ -1,0 +1,77 @@
+-- A node as a question finds it.
+use Rattle.std.specs.Prelude.{◌≡◌, ℕ, ◌+◌, ◌-◌, ◌^◌, ◌<◌, ◌≤◌, Bool, true, false, cond, List, length, Ok, Err, Result}
+use Rattle.column.specs.Meaning.{Meaning}
+use Rattle.document.specs.declared.refusals.Refusal.{Refusal}
+use Rattle.document.specs.declared.refusals.Refusal.TheVariants as refusals
+use Rattle.document.specs.Calls.{Kind, Cell}
+use Rattle.document.specs.Fetch.{Supply, Fetched, fetched, denied, fetch}
+use Rattle.document.specs.Reader.{kin}
+use Rattle.nodes.specs.declared.marks.Mark.{Mark}
+use Rattle.nodes.specs.Marks.{mark_of, familyOf}
+use Rattle.de.specs.declared.records.Node.{Node}
+use Rattle.de.specs.declared.columns.Spot.{Spot}
+use Rattle.de.specs.declared.columns.Gain.{Gain}
+use Rattle.de.specs.declared.view.View.{View}
+use Rattle.de.specs.Columns.{usable, Within, left_at, CellsStored}
+use Rattle.de.specs.Moves.{Sheets, node, isFresh, lacksNodes}
+
+-- how far the tables are used
+abbrev pub spotOf : Sheets → Spot
+spotOf T = record { taken = T.taken; place = T.place }
+
+-- what looking at r asks of the tables: bounds alone
+pub record LookSafe (input : List ℕ) (T : Sheets) (r : ℕ) : Type 0 where
+  pub within : r < length T.nodes
+  pub used : T.used ≤ 65536
+  pub taken : T.taken ≤ usable (length T.slots)
+  pub place : T.place ≤ length input
+  pub columns : T.columns + 3 < 2 ^ 32
+
+-- a record with another mark
+abbrev pub remarked : Mark → Node → Node
+remarked m x = record { mark = m; count = x.count; done = x.done; first = x.first; text = x.text; index = x.index; next = x.next; children = x.children }
+
+-- a node that was read before, as this kind now
+abbrev pub known : Sheets → Mark → Node → View
+known T m x =
+    record {
+      node = remarked m x;
+      fresh = false;
+      gain = record { spot = spotOf T; sum = 0 };
+    }
+
+-- a node that was read just now: its values stand from the first free slot on, its texts at the end of what was read
+abbrev pub found : Sheets → Mark → Node → Gain → View
+found T m x g =
+    record {
+      node = record { mark = m; count = x.count; done = 0; first = T.taken; text = g.spot.place - g.sum; index = x.index; next = x.next; children = x.children };
+      fresh = true;
+      gain = g;
+    }
+
+-- what was read of a node, and the view of it: reading went on from where the tables are used to another spot, and the cells stand in the slots
+pub record Finds (input : List ℕ) (T : Sheets) (slots : List ℕ) (K : Kind) (x : Node) (cs : List Cell) (u : Supply) (v : View) : Type 0 where
+  pub gain : Gain
+  pub is : v ≡ found T (mark_of K) x gain
+  pub left : u ≡ left_at (usable (length T.slots)) input gain.spot
+  pub within : Within (usable (length T.slots)) input gain.spot
+  pub taken : T.taken ≤ gain.spot.taken
+  pub place : T.place ≤ gain.spot.place
+  pub stored : CellsStored K x.count slots (spotOf T) gain cs
+
+-- the code answers as the definition does: with its refusal, or with something that tells what was read
+abbrev pub Answers : {X R : Type 0} → (X → Supply → R → Type 0) → Fetched X → Result R Refusal → Type 0
+Answers Tells (fetched x u) (Ok r) = Tells x u r
+Answers Tells (fetched x u) (Err e) = ⊥
+Answers Tells (denied d) (Ok r) = ⊥
+Answers Tells (denied d) (Err e) = e ≡ d
+
+-- looking at a record: whether it was read before, and whether records lack for what its kind brings
+abbrev pub LooksAs : Meaning → List ℕ → Sheets → List ℕ → Kind → Node → Bool → Bool → Result View Refusal → Type 0
+LooksAs col input T slots K x true true res = res ≡ Err refusals.Nodes
+LooksAs col input T slots K x true false res = Answers (Finds input T slots K x) (fetch col T.columns K x.count (left_at (usable (length T.slots)) input (spotOf T))) res
+LooksAs col input T slots K x false b res = (J : Kind) → x.mark ≡ mark_of J → res ≡ cond (kin J K) (Ok (known T (mark_of K) x)) (Err refusals.Kind)
+
+-- looking at the record r as a node of this kind, with these slots afterwards
+abbrev pub Looks : Meaning → List ℕ → Sheets → List ℕ → ℕ → Kind → Result View Refusal → Type 0
+Looks col input T slots r K res = LooksAs col input T slots K (node T r) (isFresh (node T r)) (lacksNodes T (familyOf (mark_of K))) res

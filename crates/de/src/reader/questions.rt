@@ -1,0 +1,82 @@
+//! A reader begins, is asked, and finishes.
+
+ghost use Rattle.std.specs.Prelude.{◌≡◌, if◌then◌else◌, vec_len, nat_lt, slice_set};
+ghost use Rattle.document.specs.Reader.{Reading, begin, answer};
+ghost use Rattle.de.specs.Moves.{rootNode};
+ghost use Rattle.de.specs.Standing.{finishing};
+ghost use Rattle.de.specs.Readers.{StandsFor, Tells, KeepsLengths};
+
+use super::Reader;
+use crate::desk::Desk;
+use crate::records::Node;
+use crate::store::Tables;
+use column::interface::Column;
+use document::questions::{Answer, Question};
+use document::refusals::Refusal;
+
+/// The tables of a reader, as its caller gets them back.
+#[derive(Drop)]
+pub struct Parts {
+    pub nodes: Vec<Node>,
+    pub slots: Vec<u64>,
+}
+
+impl<'a, C: Column> Reader<'a, C> {
+    /// A reader of this input over these tables, whose lengths are its budget. What they hold counts for nothing, and but for the root's record it stays.
+    pub fn new(kind: &'a C, input: &'a [u8], nodes: Vec<Node>, slots: Vec<u64>) -> Reader<'a, C>
+        ensures stands { StandsFor result (begin (vec_len nodes) (vec_len slots) input.now) }
+        ensures kind { result.kind.now ≡ kind.now }
+        ensures input { result.input.now ≡ input.now }
+        ensures nodes { result.desk.tables.nodes.items ≡ (if nat_lt 1 (vec_len nodes) then slice_set nodes.items 1 rootNode else nodes.items) }
+        ensures slots { result.desk.tables.slots ≡ slots }
+    {
+        let desk = Desk::start(nodes, slots);
+        Reader { kind, input, desk }
+    }
+
+    /// One question. The answer is that of the definitions in each reading that the reader stands for, which it also stands for after a refusal;
+    /// after an answer it stands for the reading that follows. The tables keep their lengths.
+    pub fn ask(&mut self, question: Question) -> Result<Answer, Refusal>
+        ensures told { (R : Reading) → StandsFor self.old R → Tells self.old self.new R (answer (C.Column.meaning self.old.kind.now) R.store R.places question) result }
+        ensures lengths { KeepsLengths self.old self.new }
+        ensures kind { self.new.kind ≡ self.old.kind }
+        ensures input { self.new.input ≡ self.old.input }
+    {
+        self.desk.ask(self.kind, self.input, question)
+    }
+
+    /// Whether the document is complete and no byte is left: `Early` where a place is open, then `Left` where bytes are left.
+    pub fn finish(&self) -> Result<(), Refusal>
+        ensures { (R : Reading) → StandsFor self.now R → result ≡ finishing R }
+    {
+        if self.desk.places.depth > 0 {
+            return Err(Refusal::Early);
+        }
+        if self.desk.tables.place < self.input.len() {
+            return Err(Refusal::Left);
+        }
+        Ok(())
+    }
+
+    /// The tables, for the next reader.
+    pub fn into_tables(self) -> Parts
+        ensures nodes { result.nodes ≡ self.entry.desk.tables.nodes }
+        ensures slots { result.slots ≡ self.entry.desk.tables.slots }
+    {
+        let Reader {
+            kind: _,
+            input: _,
+            desk,
+        } = self;
+        let Desk { tables, places: _ } = desk;
+        let Tables {
+            nodes,
+            slots,
+            used: _,
+            taken: _,
+            place: _,
+            columns: _,
+        } = tables;
+        Parts { nodes, slots }
+    }
+}

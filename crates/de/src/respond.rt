@@ -1,0 +1,109 @@
+//! A question at the record of a node.
+
+ghost use Rattle.std.specs.Prelude.{◌≡◌, ◌≤◌, true, List, nat_lt, vec_len};
+ghost use Rattle.document.specs.Calls.{Cell};
+ghost use Rattle.document.specs.Reader.{Ask};
+ghost use Rattle.de.specs.Moves.{sheets, lacksChild};
+ghost use Rattle.de.specs.Answered.{questionOf};
+ghost use Rattle.de.specs.Served.{Readable, Consulted, Responded};
+ghost use Rattle.de.specs.Hearing.{HearSafe, HeardIn, Heard as heard};
+
+use crate::heard::{Heard, index_of, is_lone, letters_of, mark_of, opens_any, opens_place, worth};
+use crate::records::Node;
+use crate::store::Tables;
+use column::interface::Column;
+use document::questions::{Answer, Question};
+use document::refusals::Refusal;
+use nodes::places::State;
+
+impl Tables {
+    /// The answer that the node's next value makes.
+    fn hear(&self, node: Node, question: Question) -> Result<Answer, Refusal>
+        requires { HearSafe (sheets self.now) node question }
+        ensures { (a : Ask) (cs : List Cell) → question ≡ questionOf a → HeardIn (sheets self.now) node a cs → heard a cs node.text result }
+    {
+        if node.done == node.count {
+            return Err(Refusal::Count);
+        }
+        let number = match question {
+            Question::Tuple(_) | Question::Unit | Question::End => 0,
+            _ => self.slots[node.first + node.done as usize],
+        };
+        worth(question, number, node.text)
+    }
+
+    /// Whether an index is new, and there is no record for its child.
+    fn lacks_child(&self, child: usize, index: Option<u32>) -> bool
+        requires { self.now.used ≤ 65536 }
+        ensures { result ≡ lacksChild (sheets self.now) child index }
+    {
+        match index {
+            Some(_) if child == 0 => self.lacks_nodes(1),
+            _ => false,
+        }
+    }
+
+    /// A question that asks a value of the node at the record r; `deep` tells that no further place can be opened.
+    fn consult<C: Column>(
+        &mut self,
+        kind: &C,
+        input: &[u8],
+        r: usize,
+        question: Question,
+        deep: bool,
+    ) -> Result<Heard, Refusal>
+        requires readable { Readable input.now (sheets self.old) r }
+        requires asks { (a : Ask) × (question ≡ questionOf a) }
+        requires rooted { nat_lt 1 (vec_len self.old.nodes) ≡ true }
+        ensures { Consulted (C.Column.meaning kind.now) input.now r question deep (sheets self.old) (sheets self.new) result }
+    {
+        let view = self.look(kind, input, r, mark_of(question))?;
+        let answer = self.hear(view.node, question)?;
+        let full = deep && opens_place(answer);
+        if full {
+            return Err(Refusal::Depth);
+        }
+        let index = index_of(answer);
+        let child = self.branch(view.node, index);
+        if self.lacks_child(child, index) {
+            return Err(Refusal::Nodes);
+        }
+        self.take_in(r, view, letters_of(answer));
+        let child = self.branch_out(r, child, index);
+        let opened = self.opened(r, child, question, answer);
+        Ok(Heard { answer, opened })
+    }
+
+    /// A question at the record r: refused, the tables are as they were, but for slots that are not taken.
+    pub(crate) fn respond<C: Column>(
+        &mut self,
+        kind: &C,
+        input: &[u8],
+        r: usize,
+        question: Question,
+        deep: bool,
+    ) -> Result<Heard, Refusal>
+        requires { Readable input.now (sheets self.old) r }
+        ensures { Responded (C.Column.meaning kind.now) input.now r question deep (sheets self.old) (sheets self.new) result }
+    {
+        let full = deep && opens_any(question);
+        if full {
+            return Err(Refusal::Depth);
+        }
+        if self.nodes.len() < 2 {
+            return Err(Refusal::Nodes);
+        }
+        match question {
+            Question::Unit => Ok(Heard {
+                answer: Answer::Unit,
+                opened: None,
+            }),
+            Question::End => Err(Refusal::Count),
+            _ if is_lone(question) => Ok(Heard {
+                answer: Answer::Tuple,
+                opened: Some(State::Lone { node: r, left: 1 }),
+            }),
+            _ => self.consult(kind, input, r, question, deep),
+        }
+    }
+}

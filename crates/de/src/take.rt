@@ -1,0 +1,167 @@
+//! An answer is taken: the node's record, its children, and how far the tables are used.
+
+ghost use Rattle.std.specs.Prelude.{◌≡◌, ◌+◌, ◌<◌, ◌≤◌, length, vec_len, slice_set};
+ghost use Rattle.chain.specs.Chains.{adjust};
+ghost use Rattle.de.specs.Moves.{sheets, node, withChildren, spawned, grown, branchIn};
+ghost use Rattle.de.specs.Taken.{GrowSafe, TakeSafe, BranchSafe, columnsWith, childCount, takenIn, branched, branchThen, openedAt, occurrences};
+
+use crate::histogram::histogram;
+use crate::records::Node;
+use crate::store::Tables;
+use crate::view::View;
+use chain::{Chain, append};
+use document::questions::{Answer, Question};
+use nodes::children::find;
+use nodes::marks::Mark;
+use nodes::places::State;
+
+/// The number of columns of a node of this kind.
+fn columns_of(mark: Mark) -> u32
+    ensures { result ≡ columnsWith mark }
+{
+    match mark {
+        Mark::Scalar(_) | Mark::Enum => 1,
+        Mark::Seq | Mark::Map => 2,
+        Mark::Text => 3,
+        Mark::Unmarked | Mark::Unit | Mark::Tuple(_) => 0,
+    }
+}
+
+/// How many values each child has that comes with the node's kind.
+fn child_count(view: View) -> u64
+    ensures { result ≡ childCount view }
+{
+    match view.node.mark {
+        Mark::Tuple(_) => view.node.count,
+        _ => view.gain.sum,
+    }
+}
+
+/// The record r gets another chain of children.
+fn set_children(nodes: &mut [Node], r: usize, chain: Chain)
+    requires { r < length nodes.old }
+    ensures { nodes.new ≡ adjust (withChildren chain) r nodes.old }
+{
+    nodes[r].children = chain;
+}
+
+/// Another record for r.
+fn set_node(nodes: &mut [Node], r: usize, node: Node)
+    requires { r < length nodes.old }
+    ensures { nodes.new ≡ slice_set nodes.old r node }
+{
+    nodes[r] = node;
+}
+
+impl Tables {
+    /// A new record of a node with so many values, as the last child of r.
+    fn spawn(&mut self, r: usize, index: u32, count: u64) -> usize
+        requires within { (r < vec_len self.old.nodes) × ((0 < self.old.used) × (self.old.used < vec_len self.old.nodes)) }
+        requires tail { (node (sheets self.old) r).children.last < vec_len self.old.nodes }
+        ensures place { result ≡ self.old.used }
+        ensures tables { sheets self.new ≡ spawned r index count (sheets self.old) }
+    {
+        let place = self.used;
+        let children = self.nodes[r].children;
+        let record = Node::unread(index, count);
+        let longer = append(&mut self.nodes, children, place, record).unwrap_or(children);
+        set_children(&mut self.nodes, r, longer);
+        self.used += 1;
+        place
+    }
+
+    /// So many children of r, each with so many values.
+    fn grow(&mut self, r: usize, family: u32, count: u64)
+        requires { GrowSafe (sheets self.old) r family }
+        ensures { sheets self.new ≡ grown r family count (sheets self.old) }
+    {
+        for i in 0..family {
+            self.spawn(r, i, count);
+        }
+    }
+
+    /// The node's next value is answered, with so many text bytes. Where its columns were read just now, the tables are used so far, and the children come that its kind brings.
+    pub(crate) fn take_in(&mut self, r: usize, view: View, letters: usize)
+        requires { TakeSafe (sheets self.old) r view letters }
+        ensures { sheets self.new ≡ takenIn r view letters (sheets self.old) }
+    {
+        let mut node = view.node;
+        node.done += 1;
+        if letters > 0 {
+            node.text += letters;
+        }
+        set_node(&mut self.nodes, r, node);
+        if view.fresh {
+            self.taken = view.gain.spot.taken;
+            self.place = view.gain.spot.place;
+            self.columns += columns_of(node.mark);
+            self.grow(r, node.mark.family(), child_count(view));
+        }
+    }
+
+    /// The record of the child with this index, 0 where there is none, or no index.
+    pub(crate) fn branch(&self, node: Node, index: Option<u32>) -> usize
+        ensures { result ≡ branchIn (sheets self.now) node index }
+    {
+        match index {
+            Some(i) => find(&self.nodes, node.children, i),
+            None => 0,
+        }
+    }
+
+    /// How many of the node's values are this index.
+    fn occurrences(&self, node: Node, index: u32) -> u64
+        requires { (node.first + node.count ≤ vec_len self.now.slots) × (index < 256) }
+        ensures { result ≡ occurrences (sheets self.now) node index }
+    {
+        let first = node.first;
+        let counts = histogram(&self.slots[first..first + node.count as usize]);
+        counts[index as usize]
+    }
+
+    /// A new index gets a record; answers the index's record.
+    pub(crate) fn branch_out(&mut self, r: usize, child: usize, index: Option<u32>) -> usize
+        requires { BranchSafe (sheets self.old) r child index }
+        ensures place { result ≡ branchThen child index (sheets self.old) }
+        ensures tables { sheets self.new ≡ branched r child index (sheets self.old) }
+    {
+        match index {
+            Some(i) if child == 0 => {
+                let count = self.occurrences(self.nodes[r], i);
+                self.spawn(r, i, count)
+            }
+            _ => child,
+        }
+    }
+
+    /// The place that an answer at r opens; `child` is the record of its index's child.
+    pub(crate) fn opened(
+        &self,
+        r: usize,
+        child: usize,
+        question: Question,
+        answer: Answer,
+    ) -> Option<State>
+        requires { r < vec_len self.now.nodes }
+        ensures { result ≡ openedAt (sheets self.now) r child question answer }
+    {
+        let first = self.nodes[r].children.first;
+        match (answer, question) {
+            (Answer::Some | Answer::Variant(_), _) => Some(State::One { node: child }),
+            (Answer::Seq(n), _) => Some(State::Items {
+                node: first,
+                left: n,
+            }),
+            (Answer::Map(n), _) => Some(State::Keys {
+                node: first,
+                left: n,
+            }),
+            (Answer::Tuple, Question::Tuple(1)) => Some(State::Lone { node: r, left: 1 }),
+            (Answer::Tuple, Question::Tuple(n)) => Some(State::Fields {
+                node: first,
+                left: n,
+            }),
+            _ => None,
+        }
+    }
+}
