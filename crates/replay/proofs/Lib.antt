@@ -1,0 +1,4 @@
+pub mod Giving
+pub mod Hearing
+pub mod Listening
+pub mod Trips

@@ -1,0 +1,55 @@
+//! Calls given to one new writer, which is closed and written out.
+
+ghost use Rattle.std.specs.Prelude.{◌≡◌, List, [], length, vec_len};
+ghost use Rattle.document.specs.Calls.{Call as Said};
+ghost use Rattle.document.specs.Verdict.{Accepted};
+ghost use Rattle.ser.specs.Standing.{Stands, WrittenOut};
+ghost use Rattle.replay.specs.Given.{calls_of, kept, marked, deskOf, sizes_of, sizesFor};
+
+use crate::steps::Step;
+use column::interface::Column;
+use document::refusals::Refusal;
+use ser::writer::Writer;
+use ser::writer::calls::Parts;
+
+/// What a document came to: the number of its bytes, or write-out's refusal; and the tables, for the next one.
+#[derive(Drop)]
+pub struct Written {
+    pub answer: Result<usize, Refusal>,
+    pub tables: Parts,
+}
+
+/// Gives each call to the writer, and marks those that it accepts.
+fn give(writer: &mut Writer, steps: &mut [Step<'_>])
+    ensures stands { (cs : List Said) → Stands (deskOf writer.old) cs → Stands (deskOf writer.new) (kept (sizes_of writer.old) cs (calls_of steps.old)) }
+    ensures steps { (cs : List Said) → Stands (deskOf writer.old) cs → steps.new ≡ marked (sizes_of writer.old) cs steps.old }
+    ensures sizes { (cs : List Said) → Stands (deskOf writer.old) cs → sizes_of writer.new ≡ sizes_of writer.old }
+{
+    for step in steps.iter_mut() {
+        step.accepted = writer.call(step.call).is_ok();
+    }
+}
+
+/// Gives each call to one new writer over these tables, marks those that it accepts, closes it and writes it out.
+pub fn write_steps<C: Column>(
+    kind: &C,
+    steps: &mut [Step<'_>],
+    tables: Parts,
+    scratch: &mut [u64],
+    output: &mut [u8],
+) -> Written
+    ensures steps { steps.new ≡ marked (sizesFor tables) [] steps.old }
+    ensures accepted { Accepted (sizesFor tables) (kept (sizesFor tables) [] (calls_of steps.old)) }
+    ensures written { WrittenOut (C.meaning kind.now) (kept (sizesFor tables) [] (calls_of steps.old)) scratch.old scratch.new output.old output.new result.answer }
+    ensures tables { sizesFor result.tables ≡ sizesFor tables }
+{
+    let Parts { nodes, cells, text } = tables;
+    let mut writer = Writer::new(nodes, cells, text);
+    give(&mut writer, steps);
+    let closed = writer.close();
+    let answer = closed.write_out(kind, scratch, output);
+    Written {
+        answer,
+        tables: closed.into_tables(),
+    }
+}
