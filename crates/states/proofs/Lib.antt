@@ -1,0 +1,4 @@
+pub mod Added
+pub mod Sent
+pub mod Asked
+pub mod Returned

@@ -1,0 +1,4 @@
+pub mod Documents
+pub mod Adding
+pub mod Sending
+pub mod Returned

@@ -1,0 +1,18 @@
+-- Why a document has no bytes.
+use Rattle.std.specs.Prelude.{◌≡◌, ℕ, ◌⊎◌, List, [], Err, Result}
+use Rattle.document.specs.declared.refusals.Refusal.{Refusal}
+use Rattle.document.specs.Calls.{Call}
+use Rattle.ser.specs.declared.desk.Desk.{Desk}
+use Rattle.states.specs.declared.message.MessageError.{MessageError}
+use Rattle.states.specs.declared.message.MessageError.TheVariants.{Memory, Refused}
+use Rattle.states.specs.Adding.{Stopped}
+
+-- there was no memory, or this is what write-out answered
+abbrev pub Fails : Result ℕ Refusal → MessageError → Type 0
+Fails wrote Memory = Unit {0}
+Fails wrote (Refused r) = wrote ≡ Err r
+
+-- .. or a writer refused one of the calls
+abbrev pub SendFails : Result ℕ Refusal → List Call → MessageError → Type 0
+SendFails wrote cs Memory = Unit {0}
+SendFails wrote cs (Refused r) = ((d : Desk) × Stopped d [] cs r) ⊎ (wrote ≡ Err r)

@@ -1,0 +1,61 @@
+//! Which seat may look into which hand.
+
+ghost use Rattle.std.specs.Prelude.{◌≡◌, ◌↔◌, IsTrue, Some};
+
+use crate::reading::ReadState;
+use crate::state::Grant;
+use std::{fmt, io};
+
+impl Grant {
+    /// Whether it lets its seat look into the hand of this one.
+    fn opens(self, seat: usize) -> bool
+        ensures { IsTrue result ↔ (self.seat ≡ Some seat) }
+    {
+        match self.seat {
+            Some(opened) => usize::from(opened) == seat,
+            None => false,
+        }
+    }
+}
+
+/// What a seat with these grants may see of another seat's hand.
+#[derive(Clone, Copy)]
+struct Look<'a> {
+    from: usize,
+    into: usize,
+    grants: &'a [Grant],
+}
+
+impl fmt::Display for Look<'_> {
+    fn fmt<W: fmt::Write>(&self, f: &mut fmt::Formatter<W>) -> fmt::Result {
+        let Look { from, into, grants } = *self;
+        if !grants.iter().any(|grant| grant.opens(into)) {
+            return write!(f, "seat {from} may not look into the hand of seat {into}");
+        }
+        write!(f, "seat {from} may look into the hand of seat {into}, by")?;
+        let mut before = "";
+        for grant in grants {
+            if grant.opens(into) {
+                let card = grant.card;
+                write!(f, "{before} card {card}")?;
+                before = " and";
+            }
+        }
+        Ok(())
+    }
+}
+
+/// Prints of each seat into which hands of the others it may look, and by which cards.
+pub(crate) fn show_looks(rt: &HostRuntime, state: &ReadState<'_>) -> io::Result<()> {
+    let count = state.seats.len();
+    for (from, seat) in state.seats.iter().enumerate() {
+        let grants = seat.grants.as_slice();
+        for into in 0..count {
+            if into != from {
+                let look = Look { from, into, grants };
+                println!(rt; "    {look}")?;
+            }
+        }
+    }
+    Ok(())
+}

@@ -1,0 +1,99 @@
+//! The bytes of a closed writer's document.
+
+ghost use Rattle.std.specs.Prelude.{◌≡◌, List, MatchResult};
+ghost use Rattle.document.specs.Calls.{Call};
+ghost use Rattle.document.specs.Bytes.{bytes};
+ghost use Rattle.document.specs.WriteOut.{writeOut};
+ghost use Rattle.ser.specs.Standing.{Stands};
+ghost use Rattle.states.specs.declared.message.MessageError.TheVariants.{Memory, Refused};
+ghost use Rattle.states.specs.Documents.{stateCalls};
+ghost use Rattle.states.specs.Sending.{Fails, SendFails};
+
+use crate::shown::Words;
+use crate::state::TableState;
+use crate::tables::CELLS;
+use crate::telling::told;
+use column::interface::Column;
+use document::refusals::Refusal;
+use ser::writer::Closed;
+use ser::writer::calls::Parts;
+use std::alloc::{AllocError, AllocFailed, Global};
+use std::fmt;
+
+/// Room for the bytes of a state.
+const ROOM: usize = 256;
+
+/// Why there is no message, or a message is no state.
+#[derive(Drop)]
+pub enum MessageError {
+    Memory,
+    Refused(Refusal),
+}
+
+impl From<AllocError> for MessageError {
+    ghost from_gives = { λ _ e. e ≡ Memory };
+
+    fn from(_e: AllocError) -> MessageError {
+        MessageError::Memory
+    }
+}
+
+impl<T: Drop> From<AllocFailed<T>> for MessageError {
+    ghost from_gives = { λ _ e. e ≡ Memory };
+
+    fn from(_e: AllocFailed<T>) -> MessageError {
+        MessageError::Memory
+    }
+}
+
+impl From<Refusal> for MessageError {
+    ghost from_gives = { λ r e. e ≡ Refused r };
+
+    fn from(refusal: Refusal) -> MessageError {
+        MessageError::Refused(refusal)
+    }
+}
+
+impl fmt::Display for MessageError {
+    fn fmt<W: fmt::Write>(&self, f: &mut fmt::Formatter<W>) -> fmt::Result {
+        match self {
+            MessageError::Memory => write!(f, "no memory"),
+            MessageError::Refused(refusal) => {
+                let words = Words(*refusal);
+                write!(f, "{words}")
+            }
+        }
+    }
+}
+
+/// The bytes of a document under a kind, or why there are none: no memory, or what write-out refuses with `CELLS` elements of scratch and `ROOM` bytes of output.
+pub(crate) fn message<C: Column>(
+    heap: Global,
+    closed: &Closed,
+    kind: &C,
+) -> Result<Vec<u8>, MessageError>
+    ensures { (cs : List Call) → Stands closed.now.desk cs → MatchResult result (λ message. message.items ≡ bytes (C.Column.meaning kind.now) cs) (Fails (writeOut (C.Column.meaning kind.now) cs CELLS ROOM)) }
+{
+    let mut scratch = vec![in heap; 0u64; CELLS]?;
+    let mut output = vec![in heap; 0u8; ROOM]?;
+    let used = closed.write_out(kind, scratch.as_mut_slice(), output.as_mut_slice())?;
+    output.truncate(used);
+    Ok(output)
+}
+
+/// The bytes of a state under a kind, or why there are none; and the tables again.
+pub(crate) fn send<C: Column>(
+    heap: Global,
+    tables: Parts,
+    state: TableState<'_>,
+    kind: &C,
+) -> (Result<Vec<u8>, MessageError>, Parts)
+    ensures { MatchResult result.0 (λ message. message.items ≡ bytes (C.Column.meaning kind.now) (stateCalls state.entry)) (SendFails (writeOut (C.Column.meaning kind.now) (stateCalls state.entry) CELLS ROOM) (stateCalls state.entry)) }
+{
+    let (closed, answer) = told(tables, state);
+    let bytes = match answer {
+        Ok(()) => message(heap, &closed, kind),
+        Err(refusal) => Err(MessageError::Refused(refusal)),
+    };
+    (bytes, closed.into_tables())
+}
