@@ -20,7 +20,7 @@ def files():
             if f.endswith(('.antt', '.rt', '.edit')): yield os.path.join(d, f)
     for d, ds, fs in os.walk(os.path.join(root, 'docs')):
         for f in sorted(fs):
-            if f.endswith('.md'): yield os.path.join(d, f)
+            if f.endswith('.md') and f not in ('PORT.md', 'DESIGN-PASS.md'): yield os.path.join(d, f)
 
 texts = {p: open(p, encoding='utf-8').read() for p in files()}
 # names that a signature of ours gives
@@ -28,6 +28,8 @@ mine = set()
 for p, t in texts.items():
     if p.endswith('.antt'):
         for m in re.finditer(r"(?m)^ *(?:unfoldable |abbrev )*(?:pub )?(?:record |data )?([a-zA-Z0-9_'-]+) (?:\(.*?\) )*:", t): mine.add(m.group(1))
+    if p.endswith('.rt'):
+        for m in re.finditer(r"(?m)^ *ghost ([a-zA-Z0-9_']+):", t): mine.add(m.group(1))
 # names that come from elsewhere
 theirs = set()
 for p, t in texts.items():

@@ -8,7 +8,7 @@ use Rattle.cases.specs.declared.answer.Answer.{Answer}
 use Rattle.cases.specs.declared.answer.Answer.TheVariants.{Written, Unwritten, Values, Unread, Judged, Digest}
 use Rattle.cases.specs.declared.question.Question.{Question}
 use Rattle.cases.specs.declared.question.Question.TheVariants.{Write, Read, Text, Reads, Texts}
-use Rattle.cases.specs.Kinds.{meaningOf}
+use Rattle.cases.specs.Kinds.{meaning_of}
 
 -- a write's answer: the kind's own, with the output that has the image at the place, or what was before the place
 abbrev pub Wrote : Answer → Result ℕ Fault → ℕ → List ℕ → List ℕ → Type 0
@@ -31,9 +31,9 @@ Heard (Digest state) r vs = ⊥
 -- the answer to a question about one call; nothing is said of a digest but that it is one
 abbrev pub Answered : Question → Answer → Type 0
 Answered (Write call values room place) a =
-    Wrote a (writing (meaningOf call.kind) call.layer call.width (vec_items values) room place) place ((meaningOf call.kind).image call.width (vec_items values)) (replicate room 165)
+    Wrote a (writing (meaning_of call.kind) call.layer call.width (vec_items values) room place) place ((meaning_of call.kind).image call.width (vec_items values)) (replicate room 165)
 Answered (Read call count input place) a =
-    Heard a (told call.layer (reading (meaningOf call.kind) call.width count (vec_items input) place)) (values_of (reading (meaningOf call.kind) call.width count (vec_items input) place))
+    Heard a (told call.layer (reading (meaning_of call.kind) call.width count (vec_items input) place)) (values_of (reading (meaning_of call.kind) call.width count (vec_items input) place))
 Answered (Text input) a = a ≡ Judged (passes (vec_items input))
 Answered (Reads kind width count set) a = (state : ℕ) × (a ≡ Digest state)
 Answered (Texts set) a = (state : ℕ) × (a ≡ Digest state)

@@ -3,7 +3,7 @@
 ghost use Rattle.std.specs.Prelude.{◌≡◌, length, OnOk};
 ghost use Rattle.column.specs.Parsed.{told, values_of};
 ghost use Rattle.column.specs.Interface.{writing, Written, reading};
-ghost use Rattle.cases.specs.Kinds.{meaningOf};
+ghost use Rattle.cases.specs.Kinds.{meaning_of};
 
 use column::fault::Fault;
 use column::flat::Flat;
@@ -48,8 +48,8 @@ impl Kind {
         output: &mut [u8],
         place: usize,
     ) -> Result<usize, Fault>
-        ensures answer { result ≡ writing (meaningOf self) layer width values.old (length output.old) place }
-        ensures bytes { Written result place ((meaningOf self).image width values.old) output.old output.new }
+        ensures answer { result ≡ writing (meaning_of self) layer width values.old (length output.old) place }
+        ensures bytes { Written result place ((meaning_of self).image width values.old) output.old output.new }
     {
         match self {
             Kind::Flat => Flat.write(layer, width, values, output, place),
@@ -74,8 +74,8 @@ impl Kind {
         input: &[u8],
         place: usize,
     ) -> Result<usize, Fault>
-        ensures answer { result ≡ told layer (reading (meaningOf self) width (length values.old) input.now place) }
-        ensures values { OnOk result (values.new ≡ values_of (reading (meaningOf self) width (length values.old) input.now place)) }
+        ensures answer { result ≡ told layer (reading (meaning_of self) width (length values.old) input.now place) }
+        ensures values { OnOk result (values.new ≡ values_of (reading (meaning_of self) width (length values.old) input.now place)) }
     {
         match self {
             Kind::Flat => Flat.read(layer, width, values, input, place),

@@ -3,7 +3,7 @@
 ghost use Rattle.std.specs.Prelude.{◌≡◌, ℕ, IfOk, vec_len};
 ghost use Rattle.column.specs.Parsed.{told, values_of};
 ghost use Rattle.column.specs.Interface.{writing, reading};
-ghost use Rattle.cases.specs.Kinds.{meaningOf};
+ghost use Rattle.cases.specs.Kinds.{meaning_of};
 ghost use Rattle.cases.specs.Answers.{Wrote, Heard, Answered};
 
 use crate::answer::Answer;
@@ -132,7 +132,7 @@ impl Call {
 
     /// Writes the values at a place of the output.
     fn write(self, values: &mut [u64], mut output: Vec<u8>, place: usize) -> Answer
-        ensures { Wrote result (writing (meaningOf self.kind) self.layer self.width values.old (vec_len output) place) place ((meaningOf self.kind).image self.width values.old) output.items }
+        ensures { Wrote result (writing (meaning_of self.kind) self.layer self.width values.old (vec_len output) place) place ((meaning_of self.kind).image self.width values.old) output.items }
     {
         match self
             .kind
@@ -151,7 +151,7 @@ impl Call {
 
     /// Reads values at a place of the input.
     fn read(self, mut values: Vec<u64>, input: &[u8], place: usize) -> Answer
-        ensures { Heard result (told self.layer (reading (meaningOf self.kind) self.width (vec_len values) input.now place)) (values_of (reading (meaningOf self.kind) self.width (vec_len values) input.now place)) }
+        ensures { Heard result (told self.layer (reading (meaning_of self.kind) self.width (vec_len values) input.now place)) (values_of (reading (meaning_of self.kind) self.width (vec_len values) input.now place)) }
     {
         match self
             .kind

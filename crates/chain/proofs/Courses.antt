@@ -92,21 +92,21 @@ runs-course ns head (i ∷ is) (e, p, q, o, r) =
     ap (course ns) e ∙ course-more ns i p q ∙ ap (λ js. i ∷ js) (ap (course ns) on ∙ runs-course ns n is r)
 
 -- one step of a walk over a table
-pub seen : {R : Type 0} (nextOf : R → ℕ) (table : List R) (at next to : ℕ) (x : R) → 0 < at → at < length table → next ≡ nextOf (get_or table at x) → to ≡ onward at next
-    → course (map nextOf table) at ≡ at ∷ course (map nextOf table) to
-seen nextOf table at next to x p q e t =
-    course-more (map nextOf table) at p (simp length-map q)
-    ∙ ap (λ k. at ∷ course (map nextOf table) k) (ap (onward at) (get_or-map nextOf table at x 0 q ∙ sym e) ∙ sym t)
+pub seen : {R : Type 0} (next_of : R → ℕ) (table : List R) (at next to : ℕ) (x : R) → 0 < at → at < length table → next ≡ next_of (get_or table at x) → to ≡ onward at next
+    → course (map next_of table) at ≡ at ∷ course (map next_of table) to
+seen next_of table at next to x p q e t =
+    course-more (map next_of table) at p (simp length-map q)
+    ∙ ap (λ k. at ∷ course (map next_of table) k) (ap (onward at) (get_or-map next_of table at x 0 q ∙ sym e) ∙ sym t)
 
 -- In a loop over a walk of one table, from what `next` answered: a turn takes the first of the records that are left,
-pub walk_turn : {R : Type 0} (nextOf : R → ℕ) (table : List R) (before after : Walk R) (k : ℕ) → table_of before ≡ table
+pub walk_turn : {R : Type 0} (next_of : R → ℕ) (table : List R) (before after : Walk R) (k : ℕ) → table_of before ≡ table
     → (table_of after ≡ table_of before)
-    × ((course (map nextOf (table_of before)) (place_of before) ≡ k ∷ course (map nextOf (table_of after)) (place_of after)) × (0 < k) × (k < length (table_of before)))
-    → (table_of after ≡ table) × (course (map nextOf table) (place_of before) ≡ k ∷ course (map nextOf table) (place_of after)) × (0 < k) × (k < length table)
-walk_turn nextOf table before after k b (a, (e, p, q)) =
-    (a ∙ b, ap (λ xs. course (map nextOf xs) (place_of before)) (sym b) ∙ e ∙ ap (λ xs. k ∷ course (map nextOf xs) (place_of after)) (a ∙ b), p, omega (arith, ap length b))
+    × ((course (map next_of (table_of before)) (place_of before) ≡ k ∷ course (map next_of (table_of after)) (place_of after)) × (0 < k) × (k < length (table_of before)))
+    → (table_of after ≡ table) × (course (map next_of table) (place_of before) ≡ k ∷ course (map next_of table) (place_of after)) × (0 < k) × (k < length table)
+walk_turn next_of table before after k b (a, (e, p, q)) =
+    (a ∙ b, ap (λ xs. course (map next_of xs) (place_of before)) (sym b) ∙ e ∙ ap (λ xs. k ∷ course (map next_of xs) (place_of after)) (a ∙ b), p, omega (arith, ap length b))
 
 -- and at the end none is left.
-pub walk_end : {R : Type 0} (nextOf : R → ℕ) (table : List R) (before after : Walk R) → table_of before ≡ table
-    → (table_of after ≡ table_of before) × (course (map nextOf (table_of before)) (place_of before) ≡ []) → course (map nextOf table) (place_of before) ≡ []
-walk_end nextOf table before after b (a, e) = ap (λ xs. course (map nextOf xs) (place_of before)) (sym b) ∙ e
+pub walk_end : {R : Type 0} (next_of : R → ℕ) (table : List R) (before after : Walk R) → table_of before ≡ table
+    → (table_of after ≡ table_of before) × (course (map next_of (table_of before)) (place_of before) ≡ []) → course (map next_of table) (place_of before) ≡ []
+walk_end next_of table before after b (a, e) = ap (λ xs. course (map next_of xs) (place_of before)) (sym b) ∙ e

@@ -3,7 +3,7 @@ use Rattle.std.proofs.Common.{◌≡◌, ℕ, ◌<◌, ◌≤◌, cond, eqb, ◌
 use Rattle.std.specs.List.{AllByRecursion}
 use Rattle.std.proofs.lemmas.Bool.{cond-true, cond-false, eq-eqb, ne_eqb}
 use Rattle.chain.specs.Chains.{Runs, Out, last_of, appended}
-use Rattle.chain.proofs.Tables.{length-appended, getD-appended-place, getD-appended-last, getD-appended-other}
+use Rattle.chain.proofs.Tables.{length-appended, get_or-appended-place, get_or-appended-last, get_or-appended-other}
 
 -- each record of a chain is one of the table, and not 0
 pub runs-within : (ns : List ℕ) (head : ℕ) (is : List ℕ) → Runs ns head is → AllByRecursion (λ i. (0 < i) × (i < length ns)) is
@@ -98,7 +98,7 @@ pub runs_append : (ns : List ℕ) (first last place : ℕ) (is : List ℕ) → 0
     → Runs (appended (λ _ n. n) ns last place 0) (cond (eqb last 0) place first) (is ++ place ∷ [])
 runs_append ns first last place [] p q h g below =
     let ms = appended (λ _ n. n) ns last place 0 in
-    let z : get_or ms place 0 ≡ 0 = getD-appended-place (λ _ n. n) ns last place 0 0 (λ e. omega arith) q in
+    let z : get_or ms place 0 ≡ 0 = get_or-appended-place (λ _ n. n) ns last place 0 0 (λ e. omega arith) q in
     let l = length-appended (λ _ n. n) ns last place 0 in
     (cond-true (eqb last 0) place first (eq-eqb last 0 (sym g)), p, omega arith, inl z, z)
 runs_append ns first last place (i ∷ is) p q h g below =
@@ -108,9 +108,9 @@ runs_append ns first last place (i ∷ is) p q h g below =
     let u : last_of (i ∷ is) < place = last-in (λ k. k < place) i is below in
     let nz : last ≡ 0 → ⊥ = λ e. omega arith in
     let t = grow ns ms last place (omega arith) p (omega arith)
-    (getD-appended-last (λ _ n. n) ns last place 0 0 nz (λ e. omega arith) (omega arith))
-    (getD-appended-place (λ _ n. n) ns last place 0 0 (λ e. omega arith) q)
-    (λ k a b. getD-appended-other (λ _ n. n) ns last place 0 k 0 a b)
+    (get_or-appended-last (λ _ n. n) ns last place 0 0 nz (λ e. omega arith) (omega arith))
+    (get_or-appended-place (λ _ n. n) ns last place 0 0 (λ e. omega arith) q)
+    (λ k a b. get_or-appended-other (λ _ n. n) ns last place 0 k 0 a b)
     first i is h g below in
     let P : ℕ → Type 0 = λ k. Runs ms k (i ∷ (is ++ place ∷ [])) in
     subst P (sym (cond-false (eqb last 0) place first (ne_eqb last 0 nz))) t
@@ -123,4 +123,4 @@ runs-beside ns last place head is h o p =
   where
     same : (js : List ℕ) → Out last js → Out place js → AllByRecursion (λ i. get_or (appended (λ _ n. n) ns last place 0) i 0 ≡ get_or ns i 0) js
     same [] o p = tt
-    same (j ∷ js) (o, os) (p, ps) = (getD-appended-other (λ _ n. n) ns last place 0 j 0 p o, same js os ps)
+    same (j ∷ js) (o, os) (p, ps) = (get_or-appended-other (λ _ n. n) ns last place 0 j 0 p o, same js os ps)

@@ -49,9 +49,9 @@ adjust f zero (x ∷ xs) = f x ∷ xs
 adjust f (suc i) (x ∷ xs) = x ∷ adjust f i xs
 
 -- the same, unless i is 0
-abbrev pub adjustUnless0 : {X : Type 0} → (X → X) → ℕ → List X → List X
-adjustUnless0 f i xs = cond (i == 0) xs (adjust f i xs)
+abbrev pub adjust_unless0 : {X : Type 0} → (X → X) → ℕ → List X → List X
+adjust_unless0 f i xs = cond (i == 0) xs (adjust f i xs)
 
 -- the table with the new record at this place, as the one after the last
 abbrev pub appended : {R : Type 0} → (R → ℕ → R) → List R → ℕ → ℕ → R → List R
-appended withNext table last place new = adjustUnless0 (λ r. withNext r place) last (slice_set table place (withNext new 0))
+appended with_next table last place new = adjust_unless0 (λ r. with_next r place) last (slice_set table place (with_next new 0))

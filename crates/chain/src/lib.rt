@@ -14,20 +14,20 @@ mod walks;
 /// A record that names the next one of its chain; 0 ends the chain.
 pub trait Linked: Copy {
     // the index that a record has for the next one
-    ghost nextOf: { Self → ℕ };
+    ghost next_of: { Self → ℕ };
 
     // the record with another index for the next one
-    ghost withNext: { Self → ℕ → Self };
+    ghost with_next: { Self → ℕ → Self };
 
     /// The index of the next record, 0 where this is the last.
     fn next(&self) -> usize
-        ensures { result ≡ nextOf self.now };
+        ensures { result ≡ next_of self.now };
 
     /// Puts another index for the next record.
     fn link(&mut self, next: usize)
-        ensures { self.new ≡ withNext self.old next };
+        ensures { self.new ≡ with_next self.old next };
 
-    ghost linked: { (r : Self) (n : ℕ) → nextOf (withNext r n) ≡ n };
+    ghost linked: { (r : Self) (n : ℕ) → next_of (with_next r n) ≡ n };
 }
 
 /// A chain: its first and its last record, both 0 where it has none.
@@ -62,9 +62,9 @@ pub fn append<R: Linked>(
     fresh: R,
 ) -> Result<Chain, Fault>
     ensures answer { result ≡ (if within (length table.old) chain place then Ok (longer chain place) else Err Outside) }
-    ensures table { table.new ≡ (if within (length table.old) chain place then appended R.withNext table.old chain.last place fresh else table.old) }
-    ensures longer { IfOk result (λ c. (is : List ℕ) → Runs (map R.nextOf table.old) chain.first is → last_of is ≡ chain.last → AllByRecursion (λ i. i < place) is → Runs (map R.nextOf table.new) c.first (is ++ place ∷ [])) }
-    ensures others { (head : ℕ) (is : List ℕ) → Runs (map R.nextOf table.old) head is → Out chain.last is → Out place is → Runs (map R.nextOf table.new) head is }
+    ensures table { table.new ≡ (if within (length table.old) chain place then appended R.with_next table.old chain.last place fresh else table.old) }
+    ensures longer { IfOk result (λ c. (is : List ℕ) → Runs (map R.next_of table.old) chain.first is → last_of is ≡ chain.last → AllByRecursion (λ i. i < place) is → Runs (map R.next_of table.new) c.first (is ++ place ∷ [])) }
+    ensures others { (head : ℕ) (is : List ℕ) → Runs (map R.next_of table.old) head is → Out chain.last is → Out place is → Runs (map R.next_of table.new) head is }
 {
     if place == 0 || place >= table.len() || chain.last >= table.len() {
         return Err(Fault::Outside);

@@ -17,9 +17,9 @@ pub struct Walk<'a, R> {
 impl<'a, R: Linked> Iterator for Walk<'a, R> {
     type Item = usize;
 
-    ghost next_gives = { λ s r t. (table_of t ≡ table_of s) × MatchOption r (course (map R.nextOf (table_of s)) (place_of s) ≡ []) (λ k. (course (map R.nextOf (table_of s)) (place_of s) ≡ k ∷ course (map R.nextOf (table_of t)) (place_of t)) × (0 < k) × (k < length (table_of s))) };
+    ghost next_gives = { λ s r t. (table_of t ≡ table_of s) × MatchOption r (course (map R.next_of (table_of s)) (place_of s) ≡ []) (λ k. (course (map R.next_of (table_of s)) (place_of s) ≡ k ∷ course (map R.next_of (table_of t)) (place_of t)) × (0 < k) × (k < length (table_of s))) };
 
-    ghost remaining = { λ s. at_most (length (course (map R.nextOf (table_of s)) (place_of s))) };
+    ghost remaining = { λ s. at_most (length (course (map R.next_of (table_of s)) (place_of s))) };
 
     fn next(&mut self) -> Option<usize> {
         let at = self.at;

@@ -8,7 +8,7 @@ use Rattle.column.specs.Widths.{listed}
 use Rattle.column.specs.Parsed.{Parsed, got, short, bad, told}
 use Rattle.column.specs.Coded.{onto, taken}
 use Rattle.column.specs.Digits.{total}
-use Rattle.column.specs.Short.{groups, leb128, front, shortOne}
+use Rattle.column.specs.Short.{groups, leb128, front, short_one}
 use Rattle.column.specs.Interface.{overlaid}
 use Rattle.column.specs.Laws.Listed.{width-most}
 use Rattle.column.specs.Laws.Short.{groups-small, groups-more, form-some, leb-fewest, Fronted, fronted}
@@ -149,8 +149,8 @@ form-large w bs size l f e large =
 
 -- ---- what reading one value answers
 
-pub one-bad : (layer w : ℕ) (bs : List ℕ) (size : ℕ) → layer < 65536 → front 10 bs ≡ got (take size bs) size → 2 ^ w ≤ total 128 (take size bs) → Err (record { cause = Bad; layer = layer }) ≡ taken layer (shortOne w bs)
+pub one-bad : (layer w : ℕ) (bs : List ℕ) (size : ℕ) → layer < 65536 → front 10 bs ≡ got (take size bs) size → 2 ^ w ≤ total 128 (take size bs) → Err (record { cause = Bad; layer = layer }) ≡ taken layer (short_one w bs)
 one-bad layer w bs size f e h = ap Err (found_here Bad layer f) ∙ rw (e, le-ltb (total 128 (take size bs)) (2 ^ w) h) refl
 
-pub one-got : (layer w : ℕ) (bs : List ℕ) (size number : ℕ) → front 10 bs ≡ got (take size bs) size → number ≡ total 128 (take size bs) → number < 2 ^ w → Ok (record { value = number; size = size }) ≡ taken layer (shortOne w bs)
+pub one-got : (layer w : ℕ) (bs : List ℕ) (size number : ℕ) → front 10 bs ≡ got (take size bs) size → number ≡ total 128 (take size bs) → number < 2 ^ w → Ok (record { value = number; size = size }) ≡ taken layer (short_one w bs)
 one-got layer w bs size number e is h = rw (e, ← is, lt-ltb number (2 ^ w) h) refl

@@ -10,9 +10,9 @@ abbrev pub size : ℕ → ℕ
 size w = cond (w == 1) 1 (w / 8)
 
 -- one value: SHORT where a byte is missing, BAD where it does not fit the width, as a byte above 1 for width 1
-abbrev pub flatOne : ℕ → List ℕ → Parsed ℕ
-flatOne w bytes =
+abbrev pub flat_one : ℕ → List ℕ → Parsed ℕ
+flat_one w bytes =
     cond (nat_le (size w) (length bytes)) (cond (nat_lt (total 256 (take (size w) bytes)) (2 ^ w)) (got (total 256 (take (size w) bytes)) (size w)) (bad 0)) (short 0)
 
 abbrev pub flat : Meaning
-flat = coded (λ w. low 256 (size w)) flatOne
+flat = coded (λ w. low 256 (size w)) flat_one

@@ -33,9 +33,9 @@ front (suc k) [] = short 0
 front (suc k) (b ∷ bytes) = cond (nat_lt b 128) (got (b ∷ []) 1) (onto (b ∷ []) 1 (front k bytes))
 
 -- one value: a form of at most ten bytes, judged when it is whole, BAD where it does not fit the width
-abbrev pub shortOne : ℕ → List ℕ → Parsed ℕ
-shortOne w bytes =
+abbrev pub short_one : ℕ → List ℕ → Parsed ℕ
+short_one w bytes =
     and_then (front 10 bytes) (λ form used. cond (nat_lt (total 128 form) (2 ^ w)) (got (total 128 form) used) (bad 0))
 
-abbrev pub shortKind : Meaning
-shortKind = coded (λ w. leb128) shortOne
+abbrev pub short_kind : Meaning
+short_kind = coded (λ w. leb128) short_one

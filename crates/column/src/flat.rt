@@ -2,7 +2,7 @@
 
 ghost use Rattle.std.specs.Prelude.{◌≡◌};
 ghost use Rattle.column.specs.Digits.{low};
-ghost use Rattle.column.specs.Flat.{size, flatOne, flat};
+ghost use Rattle.column.specs.Flat.{size, flat_one, flat};
 ghost use Rattle.column.specs.Laws.Flat.{flat-coding};
 ghost use Rattle.column.specs.Laws.Coded.{coded-lawful};
 
@@ -25,7 +25,7 @@ fn size_of(width: u32) -> usize
 impl Code for Flat {
     ghost code = { λ _ w v. low 256 (size w) v };
 
-    ghost one = { λ _ w bytes. flatOne w bytes };
+    ghost one = { λ _ w bytes. flat_one w bytes };
 
     ghost coding = { λ form. flat-coding };
 

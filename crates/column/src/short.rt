@@ -2,7 +2,7 @@
 
 ghost use Rattle.std.specs.Prelude.{◌≡◌, ◌≤◌, length, drop};
 ghost use Rattle.column.specs.Parsed.{told};
-ghost use Rattle.column.specs.Short.{Fewest, leb128, front, shortOne, shortKind};
+ghost use Rattle.column.specs.Short.{Fewest, leb128, front, short_one, short_kind};
 ghost use Rattle.column.specs.Laws.Short.{short-coding};
 ghost use Rattle.column.specs.Laws.Coded.{coded-lawful};
 
@@ -63,7 +63,7 @@ fn form_size(layer: u16, input: &[u8], place: usize) -> Result<usize, Fault>
 impl Code for Short {
     ghost code = { λ _ _ v. leb128 v };
 
-    ghost one = { λ _ w bytes. shortOne w bytes };
+    ghost one = { λ _ w bytes. short_one w bytes };
 
     ghost coding = { λ form. short-coding };
 
@@ -119,7 +119,7 @@ impl Code for Short {
 }
 
 impl Column for Short {
-    ghost meaning = { λ _. shortKind };
+    ghost meaning = { λ _. short_kind };
 
     ghost lawful = { λ kind. coded-lawful short-coding };
 

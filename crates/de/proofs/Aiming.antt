@@ -15,7 +15,7 @@ use Rattle.de.specs.declared.desk.Desk.{Desk}
 use Rattle.de.specs.Moves.{Sheets, sheets}
 use Rattle.de.specs.Reads.{Reads}
 use Rattle.de.specs.Served.{Readable}
-use Rattle.de.specs.Steps.{Plan, declines, closes, begins, asks, onAhead, onQuestion, Aims}
+use Rattle.de.specs.Steps.{Plan, declines, closes, begins, asks, on_ahead, on_question, Aims}
 use Rattle.de.specs.Standing.{Stands}
 
 -- a record that is a node's is in use
@@ -23,7 +23,7 @@ pub readable-used : (input : List ℕ) (T : Sheets) (r : ℕ) → Readable input
 readable-used input T r h = ∥∥₁_elim h le_prop (λ (ps, S, p, reads, home). omega (arith, reads.linked.used, home.1))
 
 -- a place of the definitions is not the root's: the record that it asks is where its next value stands
-pub asks_ahead : (ns : List Path) (s : State) (f : Place) → Placed ns s f → onQuestion s ≡ onAhead (ahead s)
+pub asks_ahead : (ns : List Path) (s : State) (f : Place) → Placed ns s f → on_question s ≡ on_ahead (ahead s)
 asks_ahead ns s (items p n) h = rw h.1 refl
 asks_ahead ns s (keys p n) h = rw h.1 refl
 asks_ahead ns s (vals p n) h = rw h.1 refl
@@ -33,13 +33,13 @@ asks_ahead ns s (only p) h = rw h.1 refl
 asks_ahead ns s closing h = rw h refl
 
 -- what a place waits for is readable
-ahead-aims : (input : List ℕ) (T : Sheets) (ns : List Path) (S : Store) → Reads T ns input S → (a : Ahead) (n : Next) → Leads ns a n → Aims input T (onAhead a)
+ahead-aims : (input : List ℕ) (T : Sheets) (ns : List Path) (S : Store) → Reads T ns input S → (a : Ahead) (n : Next) → Leads ns a n → Aims input T (on_ahead a)
 ahead-aims input T ns S reads no_record n h = tt
 ahead-aims input T ns S reads (at_record r t) nowhere h = absurd h
 ahead-aims input T ns S reads (at_record r t) (there p g) h = ∣ (ns, S, p, reads, h.0) ∣₁
 
 -- what the innermost of the open places waits for is readable
-open-aims : (input : List ℕ) (T : Sheets) (ns : List Path) (S : Store) → Reads T ns input S → (s : State) (ss : List State) (fs : List Place) → Open ns (s ∷ ss) fs → Aims input T (onQuestion s)
+open-aims : (input : List ℕ) (T : Sheets) (ns : List Path) (S : Store) → Reads T ns input S → (s : State) (ss : List State) (fs : List Place) → Open ns (s ∷ ss) fs → Aims input T (on_question s)
 open-aims input T ns S reads s ss fs (inl (is, none_below, first)) = rw is (∣ (ns, S, _, reads, reads.linked.first) ∣₁)
 open-aims input T ns S reads s ss [] (inr h) = absurd h
 open-aims input T ns S reads s ss (f ∷ fs) (inr h) = rw (asks_ahead ns s f h.0) (ahead-aims input T ns S reads (ahead s) (next f) (leads ns s f h.0))
@@ -56,9 +56,9 @@ aims-prop input T begins a b = ∥∥₁_prop a b
 aims-prop input T (asks r s) a b = ∥∥₁_prop a b
 
 -- a reader that stands for some reading asks a record of a node
-pub kept-aims : (d : Desk) (input : List ℕ) → 0 < d.places.depth → ∥ ((R : Reading) × Stands d input R) ∥₁ → Aims input (sheets d.tables) (onQuestion (top d.places))
+pub kept-aims : (d : Desk) (input : List ℕ) → 0 < d.places.depth → ∥ ((R : Reading) × Stands d input R) ∥₁ → Aims input (sheets d.tables) (on_question (top d.places))
 kept-aims d input h s =
-    ∥∥₁_elim s (aims-prop input (sheets d.tables) (onQuestion (top d.places))) (λ (R, S). open-aims input (sheets d.tables) S.nodes R.store S.reads (top d.places) _ R.places (open_top d input R S h))
+    ∥∥₁_elim s (aims-prop input (sheets d.tables) (on_question (top d.places))) (λ (R, S). open-aims input (sheets d.tables) S.nodes R.store S.reads (top d.places) _ R.places (open_top d input R S h))
 
 -- .. and has at most 32 places open
 pub kept-depth : (d : Desk) (input : List ℕ) → ∥ ((R : Reading) × Stands d input R) ∥₁ → d.places.depth ≤ 32

@@ -15,27 +15,27 @@ use Rattle.document.specs.declared.questions.Question.TheVariants as questions
 use Rattle.document.specs.Calls.{width, Value, scalar, text, unit, none, some, variant, seq, map, tuple, Kind, SCALAR, TEXT, SEQ, MAP, ENUM, UNIT, TUPLE, Cell, num, str, val}
 use Rattle.document.specs.Nodes.{Path, ◌▹◌, field, alt}
 use Rattle.document.specs.Numbers.{Is}
-use Rattle.document.specs.Places.{Place, fields, opens, tooMany}
-use Rattle.document.specs.Reader.{Store, letterCount, Ask, scalar?, text?, option?, variant?, seq?, map?, tuple?, asks, worth, worthless, option, oversized, worthOf, Child, childless, child, childOf}
+use Rattle.document.specs.Places.{Place, fields, opens, too_many}
+use Rattle.document.specs.Reader.{Store, letter_count, Ask, scalar?, text?, option?, variant?, seq?, map?, tuple?, asks, worth, worthless, option, oversized, worth_of, Child, childless, child, child_of}
 use Rattle.nodes.specs.declared.places.State.TheVariants as states
 use Rattle.nodes.specs.Homes.{Home}
 use Rattle.nodes.specs.Placed.{Placed, Opens}
 use Rattle.de.specs.declared.records.Node.{Node as Row}
 use Rattle.de.specs.Moves.{Sheets, node}
-use Rattle.de.specs.Asked.{Sized, opensPlace, branching, lettersOf}
-use Rattle.de.specs.Answered.{Answers, questionOf, Worthy}
+use Rattle.de.specs.Asked.{Sized, opens_place, branching, letters_of}
+use Rattle.de.specs.Answered.{Answers, question_of, Worthy}
 use Rattle.de.specs.Reads.{Lies, Values, Children}
-use Rattle.de.specs.Taken.{stepped, openedAt}
-use Rattle.de.specs.Hearing.{nextNumber, Stands, HearSafe, HeardIn}
+use Rattle.de.specs.Taken.{stepped, opened_at}
+use Rattle.de.specs.Hearing.{next_number, Stands, HearSafe, HeardIn}
 
 -- ---- numbers
 
 -- an answer that opens no place, has no index and no text bytes
 pub record Bare (a : Answer) : Type 0 where
-  pub shut : opensPlace a ≡ false
+  pub shut : opens_place a ≡ false
   pub childless : branching a ≡ options.None
-  pub wordless : lettersOf a ≡ 0
-  pub placeless : (T : Sheets) (r k : ℕ) (q : Question) → openedAt T r k q a ≡ options.None
+  pub wordless : letters_of a ≡ 0
+  pub placeless : (T : Sheets) (r k : ℕ) (q : Question) → opened_at T r k q a ≡ options.None
 
 -- a number is such an answer
 pub number-bare : (a : Answer) (k : Scalar) (b : ℕ) → Is a k b → Bare a
@@ -62,26 +62,26 @@ number-bare answers.End k b is = absurd is
 -- ---- places
 
 -- an answer opens a place where its value opens one
-pub opens-length : (a : Answer) (v : Value) (place : ℕ) (p : Path) → Answers a (val v) place → length (opens p v) ≡ cond (opensPlace a) 1 0
+pub opens-length : (a : Answer) (v : Value) (place : ℕ) (p : Path) → Answers a (val v) place → length (opens p v) ≡ cond (opens_place a) 1 0
 opens-length a (scalar k b) place p h = ap (λ o. cond o 1 0) (sym (number-bare a k b h).shut)
-opens-length a (text bs) place p h = ap (λ x. cond (opensPlace x) 1 0) (sym h)
-opens-length a unit place p h = ap (λ x. cond (opensPlace x) 1 0) (sym h)
-opens-length a none place p h = ap (λ x. cond (opensPlace x) 1 0) (sym h)
-opens-length a some place p h = ap (λ x. cond (opensPlace x) 1 0) (sym h)
-opens-length a (variant i) place p h = ap (λ x. cond (opensPlace x) 1 0) (sym h)
-opens-length a (seq n) place p h = ap (λ x. cond (opensPlace x) 1 0) (sym h)
-opens-length a (map n) place p h = ap (λ x. cond (opensPlace x) 1 0) (sym h)
-opens-length a (tuple zero) place p h = ap (λ x. cond (opensPlace x) 1 0) (sym h)
-opens-length a (tuple (suc zero)) place p h = ap (λ x. cond (opensPlace x) 1 0) (sym h)
-opens-length a (tuple (suc (suc n))) place p h = ap (λ x. cond (opensPlace x) 1 0) (sym h)
+opens-length a (text bs) place p h = ap (λ x. cond (opens_place x) 1 0) (sym h)
+opens-length a unit place p h = ap (λ x. cond (opens_place x) 1 0) (sym h)
+opens-length a none place p h = ap (λ x. cond (opens_place x) 1 0) (sym h)
+opens-length a some place p h = ap (λ x. cond (opens_place x) 1 0) (sym h)
+opens-length a (variant i) place p h = ap (λ x. cond (opens_place x) 1 0) (sym h)
+opens-length a (seq n) place p h = ap (λ x. cond (opens_place x) 1 0) (sym h)
+opens-length a (map n) place p h = ap (λ x. cond (opens_place x) 1 0) (sym h)
+opens-length a (tuple zero) place p h = ap (λ x. cond (opens_place x) 1 0) (sym h)
+opens-length a (tuple (suc zero)) place p h = ap (λ x. cond (opens_place x) 1 0) (sym h)
+opens-length a (tuple (suc (suc n))) place p h = ap (λ x. cond (opens_place x) 1 0) (sym h)
 
 -- with as many places open as there can be, an answer opens one too many where it opens one at all
-pub deep_is : (a : Answer) (v : Value) (place : ℕ) (p : Path) (gs : List Place) (deep : Bool) → Answers a (val v) place → length gs ≤ 33 → deep ≡ tooMany (suc (length gs))
-    → tooMany (length (opens p v ++ gs)) ≡ (deep && opensPlace a)
-deep_is a v place p gs deep h most is = ap tooMany (length-append (opens p v) gs ∙ ap (λ n. n + length gs) (opens-length a v place p h)) ∙ go (opensPlace a)
+pub deep_is : (a : Answer) (v : Value) (place : ℕ) (p : Path) (gs : List Place) (deep : Bool) → Answers a (val v) place → length gs ≤ 33 → deep ≡ too_many (suc (length gs))
+    → too_many (length (opens p v ++ gs)) ≡ (deep && opens_place a)
+deep_is a v place p gs deep h most is = ap too_many (length-append (opens p v) gs ∙ ap (λ n. n + length gs) (opens-length a v place p h)) ∙ go (opens_place a)
   where
-    go : (b : Bool) → tooMany (cond b 1 0 + length gs) ≡ (deep && b)
-    go true = ap tooMany (one-add (length gs)) ∙ sym is ∙ sym (and-true deep)
+    go : (b : Bool) → too_many (cond b 1 0 + length gs) ≡ (deep && b)
+    go true = ap too_many (one-add (length gs)) ∙ sym is ∙ sym (and-true deep)
     go false = le-ltb 33 (0 + length gs) (omega arith) ∙ sym (and-false deep)
 
 -- ---- the child that the next value stands at
@@ -92,7 +92,7 @@ Branches p a childless = branching a ≡ options.None
 Branches p a (child q) = (i : ℕ) × (branching a ≡ options.Some i) × (q ≡ p ▹ alt i)
 
 -- so it is with the child of its value
-pub branches : (a : Answer) (v : Value) (place : ℕ) (p : Path) → Answers a (val v) place → Branches p a (childOf p v)
+pub branches : (a : Answer) (v : Value) (place : ℕ) (p : Path) → Answers a (val v) place → Branches p a (child_of p v)
 branches a (scalar k b) place p h = (number-bare a k b h).childless
 branches a (text bs) place p h = ap branching h
 branches a unit place p h = ap branching h
@@ -116,7 +116,7 @@ Worths (map? flag) c v = v ≡ map (num c)
 Worths (tuple? n) c v = v ≡ tuple n
 
 -- a cell is worth no other
-pub worth_is : (ask : Ask) (c : Cell) (v : Value) → worthOf ask c ≡ worth v → Worths ask c v
+pub worth_is : (ask : Ask) (c : Cell) (v : Value) → worth_of ask c ≡ worth v → Worths ask c v
 worth_is ask c v e = go ask e
   where
     of_option : (n : ℕ) → option n ≡ worth v → (v ≡ none) ⊎ (v ≡ some)
@@ -128,7 +128,7 @@ worth_is ask c v e = go ask e
     flagged true u q = cc
     flagged false u q = cc
 
-    go : (a : Ask) → worthOf a c ≡ worth v → Worths a c v
+    go : (a : Ask) → worth_of a c ≡ worth v → Worths a c v
     go (scalar? k) q = cc
     go text? q = cc
     go option? q = of_option (num c) q
@@ -138,7 +138,7 @@ worth_is ask c v e = go ask e
     go (tuple? n) q = cc
 
 -- only a text's answer has a place
-pub worthy_at : (ask : Ask) (c : Cell) (r : Result Answer Refusal) (place place' : ℕ) → Worthy (worthOf ask c) place r → (asks ask ≡ TEXT → place ≡ place') → Worthy (worthOf ask c) place' r
+pub worthy_at : (ask : Ask) (c : Cell) (r : Result Answer Refusal) (place place' : ℕ) → Worthy (worth_of ask c) place r → (asks ask ≡ TEXT → place ≡ place') → Worthy (worth_of ask c) place' r
 worthy_at ask c r place place' h e = go ask h e
   where
     of_option : (n : ℕ) → Worthy (option n) place r → Worthy (option n) place' r
@@ -150,7 +150,7 @@ worthy_at ask c r place place' h e = go ask h e
     flagged true u same w = w
     flagged false u same w = same w
 
-    go : (a : Ask) → Worthy (worthOf a c) place r → (asks a ≡ TEXT → place ≡ place') → Worthy (worthOf a c) place' r
+    go : (a : Ask) → Worthy (worth_of a c) place r → (asks a ≡ TEXT → place ≡ place') → Worthy (worth_of a c) place' r
     go (scalar? k) w q = w
     go text? w q = subst (λ n. Worthy (worth (text (str c))) n r) (q refl) w
     go option? w q = of_option (num c) w
@@ -160,36 +160,36 @@ worthy_at ask c r place place' h e = go ask h e
     go (tuple? n) w q = w
 
 -- how many text bytes a cell of a node of this kind stands for
-abbrev pub lettersAt : Kind → Cell → ℕ
-lettersAt (SCALAR k) c = 0
-lettersAt TEXT c = letterCount c
-lettersAt SEQ c = 0
-lettersAt MAP c = 0
-lettersAt ENUM c = 0
-lettersAt UNIT c = 0
-lettersAt (TUPLE n) c = 0
+abbrev pub letters_at : Kind → Cell → ℕ
+letters_at (SCALAR k) c = 0
+letters_at TEXT c = letter_count c
+letters_at SEQ c = 0
+letters_at MAP c = 0
+letters_at ENUM c = 0
+letters_at UNIT c = 0
+letters_at (TUPLE n) c = 0
 
-module _ (ask : Ask) (c : Cell) (v : Value) (a : Answer) (place : ℕ) (e : worthOf ask c ≡ worth v) (h : Answers a (val v) place) where
+module _ (ask : Ask) (c : Cell) (v : Value) (a : Answer) (place : ℕ) (e : worth_of ask c ≡ worth v) (h : Answers a (val v) place) where
   -- an answer that is a value is each equal value
   answers_as : (u : Value) → v ≡ u → Answers a (val u) place
   answers_as u w = subst (λ x. Answers a (val x) place) w h
 
   -- an answer has the text bytes of its cell
-  pub letters_is : lettersOf a ≡ lettersAt (asks ask) c
+  pub letters_is : letters_of a ≡ letters_at (asks ask) c
   letters_is = go ask (worth_is ask c v e)
     where
-      go : (b : Ask) → Worths b c v → lettersOf a ≡ lettersAt (asks b) c
+      go : (b : Ask) → Worths b c v → letters_of a ≡ letters_at (asks b) c
       go (scalar? k) w = (number-bare a k (num c) (answers_as (scalar k (num c)) w)).wordless
-      go text? w = ap lettersOf (answers_as (text (str c)) w)
-      go option? w = ⊎_elim (λ z. ap lettersOf (answers_as none z)) (λ z. ap lettersOf (answers_as some z)) w
-      go variant? w = ap lettersOf (answers_as (variant (num c)) w)
-      go (seq? flag) w = ap lettersOf (answers_as (seq (num c)) w)
-      go (map? flag) w = ap lettersOf (answers_as (map (num c)) w)
-      go (tuple? n) w = ap lettersOf (answers_as (tuple n) w)
+      go text? w = ap letters_of (answers_as (text (str c)) w)
+      go option? w = ⊎_elim (λ z. ap letters_of (answers_as none z)) (λ z. ap letters_of (answers_as some z)) w
+      go variant? w = ap letters_of (answers_as (variant (num c)) w)
+      go (seq? flag) w = ap letters_of (answers_as (seq (num c)) w)
+      go (map? flag) w = ap letters_of (answers_as (map (num c)) w)
+      go (tuple? n) w = ap letters_of (answers_as (tuple n) w)
 
   -- .. and opens the place that its value opens
   pub opens_at : (T : Sheets) (ps : List Path) (S : Store) (r k : ℕ) (p : Path) → Home ps r p → Children T ps S p (node T r) (asks ask) → ((i : ℕ) → branching a ≡ options.Some i → Home ps k (p ▹ alt i))
-      → Opens ps (openedAt T r k (questionOf ask) a) (opens p v)
+      → Opens ps (opened_at T r k (question_of ask) a) (opens p v)
   opens_at T ps S r k p home ch there = go ask (worth_is ask c v e) ch
     where
       first : ℕ
@@ -206,10 +206,10 @@ module _ (ask : Ask) (c : Cell) (v : Value) (a : Answer) (place : ℕ) (e : wort
           let z : eqb (suc (suc n)) 1 ≡ false = ne_eqb (suc (suc n)) 1 (λ q. omega arith) in
           subst (λ b. Placed ps (cond b (states.Lone r 1) (states.Fields first (suc (suc n)))) (fields p 0 (suc (suc n)))) (sym z) (of_fields (suc (suc n)) f)
 
-      as_value : (q : Question) (x : Answer) (u : Value) → a ≡ x → v ≡ u → Opens ps (openedAt T r k q x) (opens p u) → Opens ps (openedAt T r k q a) (opens p v)
-      as_value q x u s w o = subst₂ (λ y z. Opens ps (openedAt T r k q y) (opens p z)) (sym s) (sym w) o
+      as_value : (q : Question) (x : Answer) (u : Value) → a ≡ x → v ≡ u → Opens ps (opened_at T r k q x) (opens p u) → Opens ps (opened_at T r k q a) (opens p v)
+      as_value q x u s w o = subst₂ (λ y z. Opens ps (opened_at T r k q y) (opens p z)) (sym s) (sym w) o
 
-      go : (b : Ask) → Worths b c v → Children T ps S p (node T r) (asks b) → Opens ps (openedAt T r k (questionOf b) a) (opens p v)
+      go : (b : Ask) → Worths b c v → Children T ps S p (node T r) (asks b) → Opens ps (opened_at T r k (question_of b) a) (opens p v)
       go (scalar? j) w f = subst₂ (λ o u. Opens ps o (opens p u)) (sym ((number-bare a j (num c) (answers_as (scalar j (num c)) w)).placeless T r k (questions.Scalar j))) (sym w) tt
       go text? w f = as_value questions.Text (answers.Text place (length (str c))) (text (str c)) (answers_as (text (str c)) w) w tt
       go option? w f = ⊎_elim
@@ -224,7 +224,7 @@ module _ (ask : Ask) (c : Cell) (v : Value) (a : Answer) (place : ℕ) (e : wort
 -- ---- the next value
 
 -- the next number of a node's values
-pub next_is : (T : Sheets) (x : Row) (c : Cell) (cs : List Cell) → Lies T x (c ∷ cs) → nextNumber T x ≡ num c
+pub next_is : (T : Sheets) (x : Row) (c : Cell) (cs : List Cell) → Lies T x (c ∷ cs) → next_number T x ≡ num c
 next_is T x c cs l =
     let m = x.first + x.done in
     sym (ap (λ xs. get_or xs 0 0) l.left ∙ get_or-take (suc (length cs)) (drop m T.slots) 0 0 (omega arith) ∙ get_or-drop m T.slots 0 0 ∙ ap (λ k. get_or T.slots k 0) (add-zero m))
@@ -244,7 +244,7 @@ lies_step T letters x c cs l =
     }
 
 -- what is left of a node's values once the next is answered; where its next text stands then counts for texts alone
-pub values_step : (T : Sheets) (start letters : ℕ) (x : Row) (K : Kind) (c : Cell) (cs : List Cell) → letters ≡ lettersAt K c → Values T start x K (c ∷ cs) → Values T (start + letterCount c) (stepped letters x) K cs
+pub values_step : (T : Sheets) (start letters : ℕ) (x : Row) (K : Kind) (c : Cell) (cs : List Cell) → letters ≡ letters_at K c → Values T start x K (c ∷ cs) → Values T (start + letter_count c) (stepped letters x) K cs
 values_step T start letters x (SCALAR k) c cs e v = (lies_step T letters x c cs v.0, v.1.1)
 values_step T start letters x TEXT c cs e v = (lies_step T letters x c cs v.0, ap₂ ◌+◌ v.1 e, omega (arith, v.2, v.3.0, e), v.3.1)
 values_step T start letters x SEQ c cs e v = lies_step T letters x c cs v
@@ -257,17 +257,17 @@ values_step T start letters x (TUPLE n) c cs e v = tt
 
 module _ (T : Sheets) (start : ℕ) (x : Row) (ask : Ask) where
   -- hearing the next value stays within the slots, and the value fits the question
-  pub hear_safe : (cs : List Cell) → Values T start x (asks ask) cs → x.done + length cs ≡ x.count → T.taken ≤ length T.slots → HearSafe T x (questionOf ask)
+  pub hear_safe : (cs : List Cell) → Values T start x (asks ask) cs → x.done + length cs ≡ x.count → T.taken ≤ length T.slots → HearSafe T x (question_of ask)
   hear_safe cs v n room = record { left = omega arith; stands = λ l. go ask v l }
     where
       inside : Lies T x cs → x.done < x.count → x.first + x.done < length T.slots
       inside s l = omega (arith, s.within)
 
-      fits : (top : ℕ) (ds : List Cell) → Lies T x ds → AllByRecursion (λ c. num c < top) ds → x.done + length ds ≡ x.count → x.done < x.count → nextNumber T x < top
+      fits : (top : ℕ) (ds : List Cell) → Lies T x ds → AllByRecursion (λ c. num c < top) ds → x.done + length ds ≡ x.count → x.done < x.count → next_number T x < top
       fits top [] s b m l = absurd (omega arith)
       fits top (d ∷ ds) s b m l = omega (arith, next_is T x d ds s, b.0)
 
-      go : (b : Ask) → Values T start x (asks b) cs → x.done < x.count → Stands T x (questionOf b)
+      go : (b : Ask) → Values T start x (asks b) cs → x.done < x.count → Stands T x (question_of b)
       go (scalar? k) w l = (inside w.0 l, fits (2 ^ width k) cs w.0 w.1 n l)
       go text? w l = inside w.0 l
       go option? w l = inside w.0 l
@@ -281,7 +281,7 @@ module _ (T : Sheets) (start : ℕ) (x : Row) (ask : Ask) where
   heard_in [] v n = omega arith
   heard_in (c ∷ cs) v n = (omega arith, go ask v)
     where
-      go : (b : Ask) → Values T start x (asks b) (c ∷ cs) → Sized b c (nextNumber T x)
+      go : (b : Ask) → Values T start x (asks b) (c ∷ cs) → Sized b c (next_number T x)
       go (scalar? k) w = sym (next_is T x c cs w.0)
       go text? w = sym (next_is T x c cs w.0 ∙ w.3.0)
       go option? w = sym (next_is T x c cs w.0)

@@ -5,13 +5,13 @@ use Rattle.chain.specs.declared.Chain.{Chain}
 use Rattle.chain.specs.Chains.{longer}
 use Rattle.document.specs.Calls.{ENUM, Cell}
 use Rattle.document.specs.Nodes.{Path, ◌▹◌, Step, alt, same}
-use Rattle.document.specs.Reader.{Node, ready, Store, withChild}
+use Rattle.document.specs.Reader.{Node, ready, Store, with_child}
 use Rattle.document.proofs.Paths.{same_self, same_true, total-append}
 use Rattle.nodes.specs.Homes.{Home}
 use Rattle.nodes.proofs.Homes.{home-more, home-new, home-cases, home-one}
 use Rattle.de.specs.declared.records.Node.{Node as Row}
-use Rattle.de.specs.Moves.{Sheets, node, withChildren, spawned, childOf}
-use Rattle.de.specs.Reads.{ChildOf, Fathers, columnsRead, Kept, Reads}
+use Rattle.de.specs.Moves.{Sheets, node, with_children, spawned, child_of}
+use Rattle.de.specs.Reads.{ChildOf, Fathers, columns_read, Kept, Reads}
 use Rattle.de.specs.Taken.{occurrences}
 use Rattle.de.proofs.Growing.{length-spawned, spawned-others, spawned-parent, spawned-child, linked-tail, reads-parents, linked-spawn}
 use Rattle.de.proofs.Founding.{found-child}
@@ -25,10 +25,10 @@ Branching n = (s : Step) → Fathers s n → ChildOf ENUM s
 
 -- An index whose child has no record is not found; the record of another one's child is found.
 pub branch_made : (T : Sheets) (ps : List Path) (input : List ℕ) (S : Store) → Reads T ps input S → (r : ℕ) (p : Path) → Home ps r p → Branching (S.nodes p) → (x : Row) → x.children ≡ (node T r).children
-    → (i : ℕ) → ((childOf T x i ≡ 0) × (S.made (p ▹ alt i) ≡ false)) ⊎ (Home ps (childOf T x i) (p ▹ alt i) × (S.made (p ▹ alt i) ≡ true))
+    → (i : ℕ) → ((child_of T x i ≡ 0) × (S.made (p ▹ alt i) ≡ false)) ⊎ (Home ps (child_of T x i) (p ▹ alt i) × (S.made (p ▹ alt i) ≡ true))
 branch_made T ps input S R r p home only x e i = ⊎_elim
     (λ n. inl (n.0, unmade (S.made (p ▹ alt i)) refl n.1))
-    (λ h. inr (h, R.making (childOf T x i) p i h))
+    (λ h. inr (h, R.making (child_of T x i) p i h))
     (found-child T ps R.linked r p home (λ k s h. only s (R.fathers k p s h)) x e i)
   where
     unmade : (b : Bool) → S.made (p ▹ alt i) ≡ b → ((k : ℕ) → Home ps k (p ▹ alt i) → ⊥) → b ≡ false
@@ -38,13 +38,13 @@ branch_made T ps input S R r p home only x e i = ⊎_elim
 -- ---- the record of a new index
 
 -- an enum's record may have other children: none of what it holds is theirs
-kept-children : (T : Sheets) (ps : List Path) (S : Store) (p : Path) (c : Chain) (x : Row) (cs : List Cell) → Kept T ps S p x (ready ENUM cs) → Kept T ps S p (withChildren c x) (ready ENUM cs)
+kept-children : (T : Sheets) (ps : List Path) (S : Store) (p : Path) (c : Chain) (x : Row) (cs : List Cell) → Kept T ps S p x (ready ENUM cs) → Kept T ps S p (with_children c x) (ready ENUM cs)
 kept-children T ps S p c x cs (m, n, (l, b), ch) = (m, n, (record { within = l.within; left = l.left }, b), ch)
 
 -- which children have a record once one more has
 module _ (q : Path) (S : Store) where
   -- those that had one have one
-  made-still : (o : Path) → S.made o ≡ true → (withChild q S).made o ≡ true
+  made-still : (o : Path) → S.made o ≡ true → (with_child q S).made o ≡ true
   made-still o m = go (same q o)
     where
       go : (b : Bool) → cond b true (S.made o) ≡ true
@@ -52,7 +52,7 @@ module _ (q : Path) (S : Store) where
       go false = m
 
   -- one that has a record is the new one, or had one
-  made-either : (o : Path) → (withChild q S).made o ≡ true → (o ≡ q) ⊎ (S.made o ≡ true)
+  made-either : (o : Path) → (with_child q S).made o ≡ true → (o ≡ q) ⊎ (S.made o ≡ true)
   made-either o = go (same q o) refl
     where
       go : (b : Bool) → same q o ≡ b → cond b true (S.made o) ≡ true → (o ≡ q) ⊎ (S.made o ≡ true)
@@ -60,7 +60,7 @@ module _ (q : Path) (S : Store) where
       go false e m = inr m
 
   -- one without a record had none
-  unmade-before : (o : Path) → (withChild q S).made o ≡ false → S.made o ≡ false
+  unmade-before : (o : Path) → (with_child q S).made o ≡ false → S.made o ≡ false
   unmade-before o = go (same q o)
     where
       go : (b : Bool) → cond b true (S.made o) ≡ false → S.made o ≡ false
@@ -70,7 +70,7 @@ module _ (q : Path) (S : Store) where
 -- The tables stand for the store in which the child has its record.
 module _ (T : Sheets) (ps : List Path) (input : List ℕ) (S : Store) (R : Reads T ps input S) (r : ℕ) (p : Path) (home : Home ps r p) (cs : List Cell) (enum : S.nodes p ≡ ready ENUM cs) (i : ℕ) (new : S.made (p ▹ alt i) ≡ false) (free : 1 ≤ S.records) where
   -- they stand for it
-  pub branch_reads : Reads (spawned r i (occurrences T (node T r) i) T) (ps ++ (p ▹ alt i) ∷ []) input (withChild (p ▹ alt i) S)
+  pub branch_reads : Reads (spawned r i (occurrences T (node T r) i) T) (ps ++ (p ▹ alt i) ∷ []) input (with_child (p ▹ alt i) S)
   branch_reads = record {
     linked = linked-spawn T ps R.linked (reads-parents T ps input S R) r p home (alt i) none i n refl room;
     rooted = R.rooted ∙ sym (ap (ltb 1) size);
@@ -82,7 +82,7 @@ module _ (T : Sheets) (ps : List Path) (input : List ℕ) (S : Store) (R : Reads
     place = R.place;
     within = R.within;
     columns = R.columns;
-    few = omega (arith, R.few, total-append (λ o. columnsRead (S.nodes o)) ps (q ∷ []));
+    few = omega (arith, R.few, total-append (λ o. columns_read (S.nodes o)) ps (q ∷ []));
     made = λ o j m. ⊎_elim (λ e. (1 + length ps, subst (Home ps' (1 + length ps)) (sym e) (home-new ps q))) (λ b. let (k, h) = R.made o j b in (k, home-more ps (q ∷ []) k (o ▹ alt j) h)) (made-either q S (o ▹ alt j) m);
     making = λ k o j h. ⊎_elim (λ b. made-still q S (o ▹ alt j) (R.making k o j b)) (λ e. cond-true (same q (o ▹ alt j)) _ _ (ap (same q) e.1 ∙ same_self q)) (home-cases ps q k (o ▹ alt j) h);
     fathers = λ k o s h. ⊎_elim (λ b. R.fathers k o s b) (λ e. father o s e.1) (home-cases ps q k (o ▹ s) h);
@@ -103,7 +103,7 @@ module _ (T : Sheets) (ps : List Path) (input : List ℕ) (S : Store) (R : Reads
       T' = spawned r i n T
 
       S' : Store
-      S' = withChild q S
+      S' = with_child q S
 
       size : length (spawned r i n T).nodes ≡ length T.nodes
       size = length-spawned r i n T
@@ -140,7 +140,7 @@ module _ (T : Sheets) (ps : List Path) (input : List ℕ) (S : Store) (R : Reads
       own =
           let c = longer (node T r).children T.used in
           let like = spawned-parent r i n T room (omega (arith, R.linked.used, home.1)) used in
-          subst (Kept T' ps' S' p (node T' r)) (sym enum) (kept_on T ps S T' ps' S' p (on p) (withChildren c (node T r)) (node T' r) like refl (ready ENUM cs) (kept-children T ps S p c (node T r) cs holds))
+          subst (Kept T' ps' S' p (node T' r)) (sym enum) (kept_on T ps S T' ps' S' p (on p) (with_children c (node T r)) (node T' r) like refl (ready ENUM cs) (kept-children T ps S p c (node T r) cs holds))
 
       -- a record that was in use
       old : (k : ℕ) (o : Path) → Home ps k o → Kept T' ps' S' o (node T' k) (S.nodes o)

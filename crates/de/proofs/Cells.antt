@@ -8,29 +8,29 @@ use Rattle.document.specs.declared.refusals.Refusal.{Refusal}
 use Rattle.document.specs.declared.scalars.Scalar.{Scalar}
 use Rattle.document.specs.Calls.{width, total, Kind, SCALAR, TEXT, SEQ, MAP, ENUM, UNIT, TUPLE, Cell, number, letters, num, str}
 use Rattle.document.specs.Columns.{sum}
-use Rattle.document.specs.Fetch.{Supply, Fetched, fetched, denied, and_then, numbers, asNumbers, fetch, columnsOf}
+use Rattle.document.specs.Fetch.{Supply, Fetched, fetched, denied, and_then, numbers, as_numbers, fetch, columns_of}
 use Rattle.nodes.specs.declared.marks.Mark.{Mark}
 use Rattle.nodes.specs.declared.marks.Mark.TheVariants as marks
 use Rattle.nodes.specs.Marks.{mark_of}
 use Rattle.de.specs.declared.columns.Spot.{Spot}
 use Rattle.de.specs.declared.columns.Gain.{Gain}
-use Rattle.de.specs.Columns.{Within, left_at, Reads, Stored, TextsStored, lengthsOf, CellsStored}
+use Rattle.de.specs.Columns.{Within, left_at, Reads, Stored, TextsStored, lengths_of, CellsStored}
 
 -- ---- marks
 
 -- the kind of a mark; for a node that is not marked, any
-abbrev pub kindOf : Mark → Kind
-kindOf marks.Unmarked = UNIT
-kindOf (marks.Scalar k) = SCALAR k
-kindOf marks.Text = TEXT
-kindOf marks.Seq = SEQ
-kindOf marks.Map = MAP
-kindOf marks.Enum = ENUM
-kindOf marks.Unit = UNIT
-kindOf (marks.Tuple n) = TUPLE n
+abbrev pub kind_of : Mark → Kind
+kind_of marks.Unmarked = UNIT
+kind_of (marks.Scalar k) = SCALAR k
+kind_of marks.Text = TEXT
+kind_of marks.Seq = SEQ
+kind_of marks.Map = MAP
+kind_of marks.Enum = ENUM
+kind_of marks.Unit = UNIT
+kind_of (marks.Tuple n) = TUPLE n
 
 -- a kind's mark has the kind
-kind-is : (K : Kind) → kindOf (mark_of K) ≡ K
+kind-is : (K : Kind) → kind_of (mark_of K) ≡ K
 kind-is (SCALAR k) = refl
 kind-is TEXT = refl
 kind-is SEQ = refl
@@ -40,8 +40,8 @@ kind-is UNIT = refl
 kind-is (TUPLE n) = refl
 
 -- what holds of a mark's kind holds of each kind that has the mark
-pub of_mark : (P : Kind → Type 0) (mark m : Mark) → mark ≡ m → P (kindOf m) → (K : Kind) → mark ≡ mark_of K → P K
-of_mark P mark m e p K h = subst P (ap kindOf (sym e ∙ h) ∙ kind-is K) p
+pub of_mark : (P : Kind → Type 0) (mark m : Mark) → mark ≡ m → P (kind_of m) → (K : Kind) → mark ≡ mark_of K → P K
+of_mark P mark m e p K h = subst P (ap kind_of (sym e ∙ h) ∙ kind-is K) p
 
 -- ---- what is read, as cells
 
@@ -74,7 +74,7 @@ letters-long [] = tt
 letters-long (t ∷ ts) = (refl, letters-long ts)
 
 -- numbers that are stored are stored cells
-pub numbers-stored : (K : Kind) (n : ℕ) (slots : List ℕ) (spot : Spot) (gain : Gain) (ns : List ℕ) → (K ≡ TEXT → ⊥) → Stored n slots spot gain.spot ns → gain.sum ≡ lengthsOf K (each number ns)
+pub numbers-stored : (K : Kind) (n : ℕ) (slots : List ℕ) (spot : Spot) (gain : Gain) (ns : List ℕ) → (K ≡ TEXT → ⊥) → Stored n slots spot gain.spot ns → gain.sum ≡ lengths_of K (each number ns)
     → CellsStored K n slots spot gain (each number ns)
 numbers-stored K n slots spot gain ns other s e =
     record {
@@ -103,15 +103,15 @@ texts-stored n slots spot gain ts s =
 -- a node of scalars has a column of their width
 pub of_scalar : (col : Meaning) (column n w : ℕ) (u : Supply) (k : Scalar) → w ≡ width k → fetch col column (SCALAR k) n u ≡ and_then (numbers col column w n u) (λ ns t. fetched (each number ns) t)
 unfolding fetch
-of_scalar col column n w u k e = ap (λ (v : ℕ). and_then (numbers col column v n u) asNumbers) (sym e)
+of_scalar col column n w u k e = ap (λ (v : ℕ). and_then (numbers col column v n u) as_numbers) (sym e)
 
 -- a node of a kind without columns has nothing to be read
-pub blank_read : (K : Kind) → columnsOf K ≡ 0 → (col : Meaning) (column n room : ℕ) (input slots : List ℕ) (spot : Spot) → Within room input spot
+pub blank_read : (K : Kind) → columns_of K ≡ 0 → (col : Meaning) (column n room : ℕ) (input slots : List ℕ) (spot : Spot) → Within room input spot
     → Reads room input spot spot (fetch col column K n (left_at room input spot)) (CellsStored K n slots spot (record { spot = spot; sum = 0 }))
 unfolding fetch
 blank_read K e col column n room input slots spot w = go K e
   where
-    blank : (K : Kind) (c : Cell) → columnsOf K ≡ 0 → (K ≡ TEXT → ⊥) → lengthsOf K (replicate n c) ≡ 0
+    blank : (K : Kind) (c : Cell) → columns_of K ≡ 0 → (K ≡ TEXT → ⊥) → lengths_of K (replicate n c) ≡ 0
         → Reads room input spot spot (fetched (replicate n c) (left_at room input spot)) (CellsStored K n slots spot (record { spot = spot; sum = 0 }))
     blank K c e other s =
         record {
@@ -123,7 +123,7 @@ blank_read K e col column n room input slots spot w = go K e
           holds = record { count = length-replicate n c; stored = λ h. absurd (omega arith); sum-is = sym s; letters = λ t. absurd (other t); place = λ t. absurd (other t) };
         }
 
-    go : (K : Kind) → columnsOf K ≡ 0 → Reads room input spot spot (fetch col column K n (left_at room input spot)) (CellsStored K n slots spot (record { spot = spot; sum = 0 }))
+    go : (K : Kind) → columns_of K ≡ 0 → Reads room input spot spot (fetch col column K n (left_at room input spot)) (CellsStored K n slots spot (record { spot = spot; sum = 0 }))
     go (SCALAR k) e = absurd (omega arith)
     go TEXT e = absurd (omega arith)
     go SEQ e = absurd (omega arith)

@@ -13,20 +13,20 @@ use Rattle.document.specs.declared.questions.Question.{Question}
 use Rattle.document.specs.Calls.{SCALAR, TEXT, SEQ, MAP, ENUM, UNIT, TUPLE, Cell, total}
 use Rattle.chain.specs.declared.Chain.{Chain}
 use Rattle.document.specs.Nodes.{Path}
-use Rattle.document.specs.Places.{Place, tooMany}
+use Rattle.document.specs.Places.{Place, too_many}
 use Rattle.document.specs.Reader.{Ask, asks, Node, fresh, ready, Store, taken, found as found_there, look, pick}
 use Rattle.nodes.specs.Homes.{Home}
 use Rattle.nodes.proofs.Homes.{home-more}
 use Rattle.de.specs.declared.view.View.{View}
 use Rattle.de.specs.declared.heard.Heard.{Heard}
 use Rattle.de.specs.declared.store.Tables.{Tables}
-use Rattle.de.specs.Moves.{Sheets, sheets, node, advanced, lacksNodes, lacksChild, branchIn}
-use Rattle.de.specs.Asked.{opensPlace, branching, lettersOf}
-use Rattle.de.specs.Answered.{questionOf}
-use Rattle.de.specs.Reads.{columnsRead, Values, Kept, Reads}
+use Rattle.de.specs.Moves.{Sheets, sheets, node, advanced, lacks_nodes, lacks_child, branch_in}
+use Rattle.de.specs.Asked.{opens_place, branching, letters_of}
+use Rattle.de.specs.Answered.{question_of}
+use Rattle.de.specs.Reads.{columns_read, Values, Kept, Reads}
 use Rattle.de.specs.Served.{Spared, Readable, Replied, Consulted}
 use Rattle.de.specs.Viewed.{LookSafe, Looks}
-use Rattle.de.specs.Taken.{takenIn, branched, branchThen, openedAt, TakeSafe, IsNew, IsIndex, BranchSafe}
+use Rattle.de.specs.Taken.{taken_in, branched, branch_then, opened_at, TakeSafe, IsNew, IsIndex, BranchSafe}
 use Rattle.de.specs.Hearing.{HearSafe, HeardIn, Heard as HeardAs}
 use Rattle.de.proofs.Growing.{linked-tail}
 use Rattle.de.proofs.Keeping.{enum_within, reads_spared}
@@ -42,17 +42,17 @@ use Rattle.de.proofs.Consulting.{refused_view, found_view, Asked, NextValue, ref
 -- ---- a record for a new branch
 
 -- where one lacks there is a new index
-lacks_one : (T : Sheets) (k : ℕ) (o : Option ℕ) → lacksChild T k o ≡ true → (i : ℕ) × (o ≡ options.Some i) × (k ≡ 0) × (lacksNodes T 1 ≡ true)
+lacks_one : (T : Sheets) (k : ℕ) (o : Option ℕ) → lacks_child T k o ≡ true → (i : ℕ) × (o ≡ options.Some i) × (k ≡ 0) × (lacks_nodes T 1 ≡ true)
 lacks_one T k options.None e = absurd (false≢true e)
 lacks_one T k (options.Some i) e = go (eqb k 0) refl e
   where
-    go : (b : Bool) → eqb k 0 ≡ b → cond b (lacksNodes T 1) false ≡ true → (j : ℕ) × (options.Some i ≡ options.Some j) × (k ≡ 0) × (lacksNodes T 1 ≡ true)
+    go : (b : Bool) → eqb k 0 ≡ b → cond b (lacks_nodes T 1) false ≡ true → (j : ℕ) × (options.Some i ≡ options.Some j) × (k ≡ 0) × (lacks_nodes T 1 ≡ true)
     go true z f = (i, refl, eqb-true k 0 z, f)
     go false z f = absurd (false≢true f)
 
 -- where none lacks there is one for each new index
-lacks_none : (T : Sheets) (k : ℕ) (o : Option ℕ) → lacksChild T k o ≡ false → (i : ℕ) → o ≡ options.Some i → k ≡ 0 → lacksNodes T 1 ≡ false
-lacks_none T k o e i is z = sym (ap (lacksChild T k) is ∙ cond-true (eqb k 0) (lacksNodes T 1) false (eq-eqb k 0 z)) ∙ e
+lacks_none : (T : Sheets) (k : ℕ) (o : Option ℕ) → lacks_child T k o ≡ false → (i : ℕ) → o ≡ options.Some i → k ≡ 0 → lacks_nodes T 1 ≡ false
+lacks_none T k o e i is z = sym (ap (lacks_child T k) is ∙ cond-true (eqb k 0) (lacks_nodes T 1) false (eq-eqb k 0 z)) ∙ e
 
 -- ---- looking is safe
 
@@ -65,7 +65,7 @@ bytes_of (b ∷ bs) h = (h 0, bytes_of bs (λ i. h (suc i)))
 columns_few : (T : Sheets) (ps : List Path) (input : List ℕ) (S : Store) → Reads T ps input S → S.rooted ≡ true → T.columns + 3 < 2 ^ 32
 columns_few T ps input S h rooted = omega (arith, h.few, at_most ps, h.linked.used, h.room rooted)
   where
-    three : (x : Node) → columnsRead x ≤ 3
+    three : (x : Node) → columns_read x ≤ 3
     three (fresh n) = omega arith
     three (ready (SCALAR k) cs) = omega arith
     three (ready TEXT cs) = omega arith
@@ -75,7 +75,7 @@ columns_few T ps input S h rooted = omega (arith, h.few, at_most ps, h.linked.us
     three (ready UNIT cs) = omega arith
     three (ready (TUPLE n) cs) = omega arith
 
-    at_most : (qs : List Path) → total (λ q. columnsRead (S.nodes q)) qs ≤ 3 * length qs
+    at_most : (qs : List Path) → total (λ q. columns_read (S.nodes q)) qs ≤ 3 * length qs
     at_most [] = omega arith
     at_most (q ∷ qs) = omega (arith, three (S.nodes q), at_most qs)
 
@@ -103,18 +103,18 @@ pub record Looked (col : Meaning) (input : List ℕ) (T U : Sheets) (r : ℕ) (q
   pub bytes : Bytes input
   pub some : ltb 1 (length T.nodes) ≡ true
   pub spares : Spared T U
-  pub looks : (a : Ask) → q ≡ questionOf a → Looks col input T U.slots r (asks a) told
+  pub looks : (a : Ask) → q ≡ question_of a → Looks col input T U.slots r (asks a) told
 
 -- .. and once its next value was heard
 pub record Listened (col : Meaning) (input : List ℕ) (T U : Sheets) (r : ℕ) (q : Question) (v : View) (told : Result Answer Refusal) : Type 0 where
   pub looked : Looked col input T U r q (Ok v)
-  pub hears : (a : Ask) (cs : List Cell) → q ≡ questionOf a → HeardIn U v.node a cs → HeardAs a cs v.node.text told
+  pub hears : (a : Ask) (cs : List Cell) → q ≡ question_of a → HeardIn U v.node a cs → HeardAs a cs v.node.text told
 
 -- ---- looking
 
 module _ {col : Meaning} {input : List ℕ} {T U : Sheets} {r : ℕ} {q : Question} {told : Result View Refusal} (L : Looked col input T U r q told) where
   -- the node is found as the definitions find it
-  sees : (ps : List Path) (S : Store) (p : Path) (a : Ask) → Reads T ps input S → Home ps r p → q ≡ questionOf a → Sees col input T U.slots S (node T r) p (asks a) (look col p (asks a) S) told
+  sees : (ps : List Path) (S : Store) (p : Path) (a : Ask) → Reads T ps input S → Home ps r p → q ≡ question_of a → Sees col input T U.slots S (node T r) p (asks a) (look col p (asks a) S) told
   sees ps S p a h home is = viewing col input T U.slots ps S r p (asks a) h (h.rooted ∙ L.some) told home (L.looks a is)
 
 -- looking refuses
@@ -124,7 +124,7 @@ consulted_view {col} {input} {T} {U} {r} {q} {e} L deep ps S p gs a h home qa fe
 
 module _ {col : Meaning} {input : List ℕ} {T U : Sheets} {r : ℕ} {q : Question} {v : View} (L : Looked col input T U r q (Ok v)) where
   -- the node that was found, and the tables once its next value is taken
-  found_seen : (ps : List Path) (S : Store) (p : Path) (a : Ask) → Reads T ps input S → Home ps r p → q ≡ questionOf a
+  found_seen : (ps : List Path) (S : Store) (p : Path) (a : Ask) → Reads T ps input S → Home ps r p → q ≡ question_of a
       → (cs : List Cell) × (st : Store) × (look col p (asks a) S ≡ found_there cs st) × Seen U ps input S st r p (asks a) v cs
   found_seen ps S p a h home is =
       let (cs, st, there, viewed) = found_view col input T U.slots S r p (asks a) v (sees L ps S p a h home is) in
@@ -133,7 +133,7 @@ module _ {col : Meaning} {input : List ℕ} {T U : Sheets} {r : ℕ} {q : Questi
       (cs, st, there, subst (λ X. Seen X ps input S st r p (asks a) v cs) (sym (spared_is T U L.spares)) seen)
 
   -- hearing what was found is safe
-  pub hear_safely : Readable input T r → (a : Ask) → q ≡ questionOf a → HearSafe U v.node q
+  pub hear_safely : Readable input T r → (a : Ask) → q ≡ question_of a → HearSafe U v.node q
   hear_safely readable a qa = ∥∥₁_elim readable (hear-prop U v.node q) (λ (ps, S, p, h, home).
       let (cs, st, there, seen) = found_seen ps S p a h home qa in
       subst (HearSafe U v.node) (sym qa) (hear_safe_at _ _ _ (hear_safe (advanced v.gain.spot.taken v.gain.spot.place 0 U) (st.texts p) v.node a cs seen.values seen.left (omega (arith, seen.usable)))))
@@ -142,7 +142,7 @@ module _ {col : Meaning} {input : List ℕ} {T U : Sheets} {r : ℕ} {q : Questi
 
 module _ {col : Meaning} {input : List ℕ} {T U : Sheets} {r : ℕ} {q : Question} {v : View} {told : Result Answer Refusal} (L : Listened col input T U r q v told) where
   -- what is heard at a node, with places gs open
-  asked_at : (deep : Bool) (ps : List Path) (S : Store) (p : Path) (gs : List Place) (a : Ask) → Reads T ps input S → Home ps r p → q ≡ questionOf a → length gs ≤ 33 → deep ≡ tooMany (suc (length gs))
+  asked_at : (deep : Bool) (ps : List Path) (S : Store) (p : Path) (gs : List Place) (a : Ask) → Reads T ps input S → Home ps r p → q ≡ question_of a → length gs ≤ 33 → deep ≡ too_many (suc (length gs))
       → (cs : List Cell) × (st : Store) × (look col p (asks a) S ≡ found_there cs st) × Asked T U ps input S st r p a gs deep v cs × HeardAs a cs v.node.text told
   asked_at deep ps S p gs a h home is few at =
       let (cs, st, there, seen) = found_seen L.looked ps S p a h home is in (
@@ -164,15 +164,15 @@ consulted_answer {col} {input} {T} {U} {r} {q} {v} {e} L deep ps S p gs a h home
 
 module _ {col : Meaning} {input : List ℕ} {T U : Sheets} {r : ℕ} {q : Question} {v : View} {x : Answer} (L : Listened col input T U r q v (Ok x)) where
   -- the node and its next value, whatever places are open
-  next_value : (ps : List Path) (S : Store) (p : Path) (a : Ask) → Reads T ps input S → Home ps r p → q ≡ questionOf a
-      → (cs : List Cell) × (st : Store) × Asked T U ps input S st r p a [] (tooMany 1) v cs × NextValue st p a cs x
+  next_value : (ps : List Path) (S : Store) (p : Path) (a : Ask) → Reads T ps input S → Home ps r p → q ≡ question_of a
+      → (cs : List Cell) × (st : Store) × Asked T U ps input S st r p a [] (too_many 1) v cs × NextValue st p a cs x
   next_value ps S p a h home qa =
-      let (cs, st, there, Q, heard) = asked_at L (tooMany 1) ps S p [] a h home qa (omega arith) refl in
+      let (cs, st, there, Q, heard) = asked_at L (too_many 1) ps S p [] a h home qa (omega arith) refl in
       (cs, st, Q, heard_value Q x heard)
 
   -- taking it is safe
-  pub take_safe : Readable input T r → (a : Ask) → q ≡ questionOf a → length input < 2 ^ 64 → TakeSafe U r v (lettersOf x)
-  take_safe readable a qa short = ∥∥₁_elim readable (take-prop U r v (lettersOf x)) (λ (ps, S, p, h, home).
+  pub take_safe : Readable input T r → (a : Ask) → q ≡ question_of a → length input < 2 ^ 64 → TakeSafe U r v (letters_of x)
+  take_safe readable a qa short = ∥∥₁_elim readable (take-prop U r v (letters_of x)) (λ (ps, S, p, h, home).
       let (cs, st, Q, N) = next_value ps S p a h home qa in
       let room = Q.reads.room Q.rooted in
       let values = subst (Values _ (st.texts p) v.node (asks a)) N.next Q.seen.values in
@@ -181,18 +181,18 @@ module _ {col : Meaning} {input : List ℕ} {T U : Sheets} {r : ℕ} {q : Questi
         within = omega (arith, Q.reads.linked.used, home.1);
         nodes = omega arith;
         left = omega (arith, Q.seen.left, ap length N.next);
-        text = λ l. omega (arith, text_fits _ (st.texts p) v.node (asks a) N.cell N.rest (lettersOf x) values (letters_is a N.cell N.value x (st.texts p) N.worths N.answers) l, Q.seen.within);
+        text = λ l. omega (arith, text_fits _ (st.texts p) v.node (asks a) N.cell N.rest (letters_of x) values (letters_is a N.cell N.value x (st.texts p) N.worths N.answers) l, Q.seen.within);
         columns = columns_few U ps input S Q.reads Q.rooted;
         room = λ f. omega (arith, Q.seen.room f);
         tail = omega (arith, linked-tail U ps Q.reads.linked r p home, ap (λ (k : Chain). k.last) Q.seen.children);
       })
 
   -- and so is a record for a new branch
-  pub branch_safe : Readable input T r → (a : Ask) → q ≡ questionOf a → (child : ℕ) → lacksChild U child (branching x) ≡ false → BranchSafe (takenIn r v (lettersOf x) U) r child (branching x)
-  branch_safe readable a qa child lacks = ∥∥₁_elim readable (branch-prop (takenIn r v (lettersOf x) U) r child (branching x)) (λ (ps, S, p, h, home). go ps S p h home)
+  pub branch_safe : Readable input T r → (a : Ask) → q ≡ question_of a → (child : ℕ) → lacks_child U child (branching x) ≡ false → BranchSafe (taken_in r v (letters_of x) U) r child (branching x)
+  branch_safe readable a qa child lacks = ∥∥₁_elim readable (branch-prop (taken_in r v (letters_of x) U) r child (branching x)) (λ (ps, S, p, h, home). go ps S p h home)
     where
       V : Sheets
-      V = takenIn r v (lettersOf x) U
+      V = taken_in r v (letters_of x) U
 
       index_is : (o : Option ℕ) → branching x ≡ o → ((i : ℕ) → branching x ≡ options.Some i → i < 256) → IsIndex o
       index_is options.None e f = tt
@@ -205,7 +205,7 @@ module _ {col : Meaning} {input : List ℕ} {T U : Sheets} {r : ℕ} {q : Questi
       go : (ps : List Path) (S : Store) (p : Path) → Reads T ps input S → Home ps r p → BranchSafe V r child (branching x)
       go ps S p h home =
           let (cs, st, Q, N) = next_value ps S p a h home qa in
-          let (more, reads) = Q.seen.takes N.cell N.rest (lettersOf x) N.next (letters_is a N.cell N.value x (st.texts p) N.worths N.answers) in
+          let (more, reads) = Q.seen.takes N.cell N.rest (letters_of x) N.next (letters_is a N.cell N.value x (st.texts p) N.worths N.answers) in
           let values = subst (Values _ (st.texts p) v.node (asks a)) N.next Q.seen.values in
           let there = home-more ps more r p home in
           let roomy = reads.room (Q.seen.rooted ∙ Q.rooted) in
@@ -225,29 +225,29 @@ module _ {col : Meaning} {input : List ℕ} {T U : Sheets} {r : ℕ} {q : Questi
           }
 
   -- a place too many
-  pub consulted_depth : (deep : Bool) → (deep && opensPlace x) ≡ true → Consulted col input r q deep T U (Err refusals.Depth)
+  pub consulted_depth : (deep : Bool) → (deep && opens_place x) ≡ true → Consulted col input r q deep T U (Err refusals.Depth)
   unfolding Consulted
   consulted_depth deep full ps S p gs a h home qa few at =
       let (cs, st, there, Q, heard) = asked_at L deep ps S p gs a h home qa few at in
       subst (λ K. Replied ps input gs T U (pick p gs a K) (Err refusals.Depth)) (sym there) (refused_depth Q x (heard_value Q x heard) full)
 
-  module _ (deep : Bool) (shallow : (deep && opensPlace x) ≡ false) (child : ℕ) (at_child : child ≡ branchIn U v.node (branching x)) where
+  module _ (deep : Bool) (shallow : (deep && opens_place x) ≡ false) (child : ℕ) (at_child : child ≡ branch_in U v.node (branching x)) where
     -- no record for a new branch
-    pub consulted_nodes : lacksChild U child (branching x) ≡ true → Consulted col input r q deep T U (Err refusals.Nodes)
+    pub consulted_nodes : lacks_child U child (branching x) ≡ true → Consulted col input r q deep T U (Err refusals.Nodes)
     unfolding Consulted
     consulted_nodes lacks ps S p gs a h home qa few at =
         let (i, b, z, short) = lacks_one U child (branching x) lacks in
         let (cs, st, there, Q, heard) = asked_at L deep ps S p gs a h home qa few at in
         subst (λ K. Replied ps input gs T U (pick p gs a K) (Err refusals.Nodes)) (sym there)
-        (refused_nodes Q x (heard_value Q x heard) shallow i b (sym (at_child ∙ ap (branchIn U v.node) b) ∙ z) short)
+        (refused_nodes Q x (heard_value Q x heard) shallow i b (sym (at_child ∙ ap (branch_in U v.node) b) ∙ z) short)
 
     -- the answer is taken, with a record for a new branch
-    pub consulted_ok : lacksChild U child (branching x) ≡ false → (T' : Sheets) → T' ≡ branched r child (branching x) (takenIn r v (lettersOf x) U)
-        → Consulted col input r q deep T T' (Ok (record { answer = x; opened = openedAt T' r (branchThen child (branching x) (takenIn r v (lettersOf x) U)) q x }))
+    pub consulted_ok : lacks_child U child (branching x) ≡ false → (T' : Sheets) → T' ≡ branched r child (branching x) (taken_in r v (letters_of x) U)
+        → Consulted col input r q deep T T' (Ok (record { answer = x; opened = opened_at T' r (branch_then child (branching x) (taken_in r v (letters_of x) U)) q x }))
     unfolding Consulted
     consulted_ok lacks T' tables ps S p gs a h home qa few at =
         let (cs, st, there, Q, heard) = asked_at L deep ps S p gs a h home qa few at in
-        let heard_with : Question → Heard = λ k. record { answer = x; opened = openedAt T' r (branchThen child (branching x) (takenIn r v (lettersOf x) U)) k x } in
+        let heard_with : Question → Heard = λ k. record { answer = x; opened = opened_at T' r (branch_then child (branching x) (taken_in r v (letters_of x) U)) k x } in
         subst (λ k. Replied ps input gs T T' (pick p gs a (look col p (asks a) S)) (Ok (heard_with k))) (sym qa)
-        (subst (λ K. Replied ps input gs T T' (pick p gs a K) (Ok (heard_with (questionOf a)))) (sym there)
+        (subst (λ K. Replied ps input gs T T' (pick p gs a K) (Ok (heard_with (question_of a)))) (sym there)
         (answered Q x (heard_value Q x heard) shallow T' child at_child tables (lacks_none U child (branching x) lacks)))

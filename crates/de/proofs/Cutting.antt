@@ -4,7 +4,7 @@ use Rattle.std.proofs.lemmas.List.{take_rest, drop-drop, length-take-le}
 use Rattle.std.proofs.lemmas.Bool.{cond-true, le-leb}
 use Rattle.column.specs.Meaning.{Meaning}
 use Rattle.document.specs.Columns.{sum}
-use Rattle.document.specs.Fetch.{Supply, supply, Fetched, fetched, and_then, lengths, cut, allPass, parted, texts}
+use Rattle.document.specs.Fetch.{Supply, supply, Fetched, fetched, and_then, lengths, cut, all_pass, parted, texts}
 use Rattle.de.specs.declared.columns.Spot.{Spot}
 use Rattle.de.specs.declared.columns.Gain.{Gain}
 use Rattle.de.specs.Columns.{left_at, Reads, LengthsStored, TextsStored}
@@ -17,7 +17,7 @@ lengths-cut (n ∷ ns) bs h = ap₂ ◌∷◌ (length-take-le n bs (omega arith)
 -- a node's lengths were read, there are bytes for them all, and the texts pass
 pub texts_read : (col : Meaning) (column n room : ℕ) (input slots : List ℕ) (spot : Spot) (gain : Gain)
     → Reads room input spot gain.spot (lengths col column n (left_at room input spot)) (LengthsStored n slots spot gain) → gain.sum ≤ length input - gain.spot.place
-    → allPass (cut (take (spot.taken + n - spot.taken) (drop spot.taken slots)) (take (length input - gain.spot.place) (drop gain.spot.place input))) ≡ true
+    → all_pass (cut (take (spot.taken + n - spot.taken) (drop spot.taken slots)) (take (length input - gain.spot.place) (drop gain.spot.place input))) ≡ true
     → Reads room input spot (record { taken = gain.spot.taken; place = gain.spot.place + gain.sum }) (texts col column n (left_at room input spot))
     (TextsStored n slots spot (record { spot = record { taken = gain.spot.taken; place = gain.spot.place + gain.sum }; sum = gain.sum }))
 texts_read col column n room input slots spot gain r h pass =
@@ -25,13 +25,13 @@ texts_read col column n room input slots spot gain r h pass =
     let all : sum r.what ≤ length bs = omega (arith, r.holds.1, length-drop gain.spot.place input) in
     let same : each length (cut r.what bs) ≡ r.what = lengths-cut r.what bs all in
     let stand : take (spot.taken + n - spot.taken) (drop spot.taken slots) ≡ r.what = ap (λ k. take k (drop spot.taken slots)) (omega arith) ∙ r.holds.0.stand in
-    let passes : allPass (cut r.what bs) ≡ true = sym (ap₂ (λ ns ts. allPass (cut ns ts)) stand (take_rest input gain.spot.place)) ∙ pass in
+    let passes : all_pass (cut r.what bs) ≡ true = sym (ap₂ (λ ns ts. all_pass (cut ns ts)) stand (take_rest input gain.spot.place)) ∙ pass in
     let left : Supply = supply (room - gain.spot.taken) (drop (sum r.what) bs) in
     let after : drop (sum r.what) bs ≡ drop (gain.spot.place + gain.sum) input = drop-drop (sum r.what) gain.spot.place input ∙ ap (λ k. drop (gain.spot.place + k) input) (sym r.holds.1) in
     record {
       what = cut r.what bs;
       is = ap (λ (m : Fetched (List ℕ)). and_then m (parted column)) r.is ∙ cond-true (leb (sum r.what) (length bs)) _ _ (le-leb (sum r.what) (length bs) all)
-          ∙ cond-true (allPass (cut r.what bs)) (fetched (cut r.what bs) left) _ passes ∙ ap (λ ts. fetched (cut r.what bs) (supply (room - gain.spot.taken) ts)) after;
+          ∙ cond-true (all_pass (cut r.what bs)) (fetched (cut r.what bs) left) _ passes ∙ ap (λ ts. fetched (cut r.what bs) (supply (room - gain.spot.taken) ts)) after;
       within = record { taken = r.within.taken; place = omega (arith, r.within.place) };
       taken = r.taken;
       place = omega (arith, r.place);

@@ -3,24 +3,24 @@ use Rattle.std.proofs.Common.{◌≡◌, ℕ, zero, suc, ◌+◌, ◌-◌, ◌<�
 use Rattle.std.proofs.lemmas.Bool.{cases_Bool, cond-true, cond-false, false≢true, lt-ltb}
 use Rattle.document.specs.Calls.{total, Kind, SCALAR, TEXT, SEQ, MAP, ENUM, UNIT, TUPLE, Cell, number, num}
 use Rattle.document.specs.Nodes.{Path, root, ◌▹◌, Step, elem, key, value, field, alt, same, demand}
-use Rattle.document.specs.Fetch.{Supply, supply, columnsOf}
+use Rattle.document.specs.Fetch.{Supply, supply, columns_of}
 use Rattle.document.specs.Records.{brought}
-use Rattle.document.specs.Reader.{Node, fresh, ready, Store, put, letterCount, spread, opened, taken}
+use Rattle.document.specs.Reader.{Node, fresh, ready, Store, put, letter_count, spread, opened, taken}
 use Rattle.document.proofs.Paths.{same_self, same_true, total-append}
 use Rattle.document.proofs.Allotting.{length-brought}
-use Rattle.nodes.specs.Marks.{mark_of, familyOf}
+use Rattle.nodes.specs.Marks.{mark_of, family_of}
 use Rattle.nodes.specs.Homes.{Home}
 use Rattle.nodes.proofs.Homes.{home-one, home-more}
 use Rattle.nodes.proofs.Families.{family-takes, field_at}
 use Rattle.de.specs.declared.records.Node.{Node as Row}
 use Rattle.de.specs.declared.columns.Gain.{Gain}
-use Rattle.de.specs.Moves.{Sheets, node, rootNode, unread, withChildren, grown, replaced, advanced}
-use Rattle.de.specs.Reads.{ChildOf, Fathers, isReady, columnsRead, allOf, Values, Children, Kept, Reads}
+use Rattle.de.specs.Moves.{Sheets, node, root_node, unread, with_children, grown, replaced, advanced}
+use Rattle.de.specs.Reads.{ChildOf, Fathers, is_ready, columns_read, all_of, Values, Children, Kept, Reads}
 use Rattle.de.specs.Viewed.{found}
-use Rattle.de.specs.Taken.{columnsWith, childrenWith, stepped}
+use Rattle.de.specs.Taken.{columns_with, children_with, stepped}
 use Rattle.de.proofs.Growing.{Alike, alike-same, alike-trans, linked-replaced, linked-advanced, fathers-ready, reads-parents, own, home-split, family-brought, Grew, linked-grow}
 use Rattle.de.proofs.Keeping.{GoesOn, values_on, kept_on}
-use Rattle.de.proofs.Answering.{lettersAt, values_step}
+use Rattle.de.proofs.Answering.{letters_at, values_step}
 use Rattle.de.proofs.Taking.{total_gain, put_here, put_other, put_cases}
 
 -- ---- children get their numbers of values
@@ -64,14 +64,14 @@ comes p (TUPLE n) j h =
     (field j, field_at p 0 n j l ∙ ap (λ i. p ▹ field i) e, (j, l, refl), λ i e. cc)
 
 -- as many columns are read as the kind has
-columns_with : (K : Kind) → columnsWith (mark_of K) ≡ columnsOf K
-columns_with (SCALAR k) = refl
-columns_with TEXT = refl
-columns_with SEQ = refl
-columns_with MAP = refl
-columns_with ENUM = refl
-columns_with UNIT = refl
-columns_with (TUPLE n) = refl
+columns_with_kind : (K : Kind) → columns_with (mark_of K) ≡ columns_of K
+columns_with_kind (SCALAR k) = refl
+columns_with_kind TEXT = refl
+columns_with_kind SEQ = refl
+columns_with_kind MAP = refl
+columns_with_kind ENUM = refl
+columns_with_kind UNIT = refl
+columns_with_kind (TUPLE n) = refl
 
 -- a branch has as many values as its index occurs among the numbers of the cells
 enum_total : (s : Step) (ds : List Cell) → total (demand ENUM s) (each number (each num ds)) ≡ total (demand ENUM s) ds
@@ -80,7 +80,7 @@ enum_total s (d ∷ ds) = ap (λ n. demand ENUM s d + n) (enum_total s ds)
 
 -- how many values each child has that comes: the sum of the lengths, or a tuple's number
 demanded : (K : Kind) (s : Step) (ds : List Cell) (count sum : ℕ) → ChildOf K s → ((i : ℕ) → s ≡ alt i → ⊥) → length ds ≡ count → ((K ≡ SEQ) ⊎ (K ≡ MAP) → sum ≡ total num ds)
-    → total (demand K s) ds ≡ childrenWith (mark_of K) count sum
+    → total (demand K s) ds ≡ children_with (mark_of K) count sum
 demanded (SCALAR k) s ds count sum l alone n e = absurd l
 demanded TEXT s ds count sum l alone n e = absurd l
 demanded SEQ s ds count sum l alone n e = ap (λ t. total (demand SEQ t) ds) l ∙ sym (e (inl refl))
@@ -97,32 +97,32 @@ demanded (TUPLE m) s ds count sum (i, b, l) alone n e = ap (λ t. total (demand 
 -- ---- the tables
 
 -- where a node's first text stands once its columns are read: at the end of what was read
-abbrev pub firstText : Store → Supply → List Cell → ℕ
-firstText S u ds = S.place + (length S.input - length u.input) - total letterCount ds
+abbrev pub first_text : Store → Supply → List Cell → ℕ
+first_text S u ds = S.place + (length S.input - length u.input) - total letter_count ds
 
 -- The columns of a node were read: there is room for its children, and its values stand in the slots that are taken then.
 pub record Came (T : Sheets) (input : List ℕ) (S : Store) (x : Row) (K : Kind) (ds : List Cell) (u : Supply) (g : Gain) : Type 0 where
-  pub room : T.used + familyOf (mark_of K) ≤ min (length T.nodes) 65536
+  pub room : T.used + family_of (mark_of K) ≤ min (length T.nodes) 65536
   pub taken : T.taken ≤ g.spot.taken
   pub usable : g.spot.taken ≤ min (length T.slots) 1048576
   pub from : T.place ≤ g.spot.place
   pub within : g.spot.place ≤ length input
   pub left : u ≡ supply (min (length T.slots) 1048576 - g.spot.taken) (drop g.spot.place input)
   pub count : length ds ≡ x.count
-  pub values : Values (advanced g.spot.taken g.spot.place 0 T) (firstText S u ds) (found T (mark_of K) x g).node K ds
+  pub values : Values (advanced g.spot.taken g.spot.place 0 T) (first_text S u ds) (found T (mark_of K) x g).node K ds
   pub sum : (K ≡ SEQ) ⊎ (K ≡ MAP) → g.sum ≡ total num ds
 
-module _ (T : Sheets) (ps : List Path) (input : List ℕ) (S : Store) (h : Reads T ps input S) (r : ℕ) (p : Path) (home : Home ps r p) (rooted : S.rooted ≡ true) (n : ℕ) (was : S.nodes p ≡ fresh n) (K : Kind) (c : Cell) (cs : List Cell) (u : Supply) (g : Gain) (came : Came T input S (node T r) K (c ∷ cs) u g) (letters : ℕ) (text : letters ≡ lettersAt K c) where
+module _ (T : Sheets) (ps : List Path) (input : List ℕ) (S : Store) (h : Reads T ps input S) (r : ℕ) (p : Path) (home : Home ps r p) (rooted : S.rooted ≡ true) (n : ℕ) (was : S.nodes p ≡ fresh n) (K : Kind) (c : Cell) (cs : List Cell) (u : Supply) (g : Gain) (came : Came T input S (node T r) K (c ∷ cs) u g) (letters : ℕ) (text : letters ≡ letters_at K c) where
   -- the node's record, and the tables before the children come
   abbrev y : Row
   y = stepped letters (found T (mark_of K) (node T r) g).node
 
   abbrev B : Sheets
-  B = advanced g.spot.taken g.spot.place (columnsWith (mark_of K)) (replaced r y T)
+  B = advanced g.spot.taken g.spot.place (columns_with (mark_of K)) (replaced r y T)
 
   -- the tables and the store then, and the children that came
   abbrev T' : Sheets
-  T' = grown r (familyOf (mark_of K)) (childrenWith (mark_of K) (node T r).count g.sum) B
+  T' = grown r (family_of (mark_of K)) (children_with (mark_of K) (node T r).count g.sum) B
 
   abbrev S' : Store
   S' = taken p K c cs (opened p K (c ∷ cs) u S)
@@ -143,14 +143,14 @@ module _ (T : Sheets) (ps : List Path) (input : List ℕ) (S : Store) (h : Reads
   no_child k q hk s e = childless k s (subst (Home ps k) e hk)
 
   -- the children that the kind brings come
-  grew : Grew B T' ps qs r (childrenWith (mark_of K) (node T r).count g.sum)
+  grew : Grew B T' ps qs r (children_with (mark_of K) (node T r).count g.sum)
   grew =
-      linked-grow B ps (linked-advanced (replaced r y T) ps g.spot.taken g.spot.place (columnsWith (mark_of K)) (linked-replaced T ps r y refl refl refl h.linked)) (reads-parents T ps input S h) r p home childless (childrenWith (mark_of K) (node T r).count g.sum) K
+      linked-grow B ps (linked-advanced (replaced r y T) ps g.spot.taken g.spot.place (columns_with (mark_of K)) (linked-replaced T ps r y refl refl refl h.linked)) (reads-parents T ps input S h) r p home childless (children_with (mark_of K) (node T r).count g.sum) K
       (omega (arith, came.room, length-set T.nodes r y))
 
   -- the nodes then
-  at_node : S'.nodes p ≡ ready K cs
-  at_node = put_here p (ready K cs) (spread p K (c ∷ cs) S.nodes)
+  at_this_node : S'.nodes p ≡ ready K cs
+  at_this_node = put_here p (ready K cs) (spread p K (c ∷ cs) S.nodes)
 
   -- a child is to be read
   at_child : (s : Step) → S'.nodes (p ▹ s) ≡ fresh (total (demand K s) (c ∷ cs))
@@ -161,38 +161,38 @@ module _ (T : Sheets) (ps : List Path) (input : List ℕ) (S : Store) (h : Reads
   at_other q ne apart = put_other p q (ready K cs) (spread p K (c ∷ cs) S.nodes) ne ∙ spread_other p K (c ∷ cs) S.nodes q apart
 
   -- a child was not read before
-  unread_child : (s : Step) → columnsRead (S.nodes (p ▹ s)) ≡ 0
+  unread_child : (s : Step) → columns_read (S.nodes (p ▹ s)) ≡ 0
   unread_child s = go (S.nodes (p ▹ s)) refl
     where
-      go : (x : Node) → S.nodes (p ▹ s) ≡ x → columnsRead x ≡ 0
+      go : (x : Node) → S.nodes (p ▹ s) ≡ x → columns_read x ≡ 0
       go (fresh m) e = refl
-      go (ready H ds) e = let (k, hk) = h.homes (p ▹ s) (ap isReady e) in absurd (childless k s hk)
+      go (ready H ds) e = let (k, hk) = h.homes (p ▹ s) (ap is_ready e) in absurd (childless k s hk)
 
   -- no node has fewer columns than it had
-  weighs : (q : Path) → columnsRead (S.nodes q) ≤ columnsRead (S'.nodes q)
+  weighs : (q : Path) → columns_read (S.nodes q) ≤ columns_read (S'.nodes q)
   weighs q = ⊎_elim
-      (λ e. let a = ap columnsRead (ap S.nodes e ∙ was) in omega arith)
+      (λ e. let a = ap columns_read (ap S.nodes e ∙ was) in omega arith)
       (λ ne. ⊎_elim
-      (λ is. let a = ap (λ o. columnsRead (S.nodes o)) is.1 ∙ unread_child is.0 in omega arith)
-      (λ apart. let a = ap columnsRead (at_other q ne apart) in omega arith)
+      (λ is. let a = ap (λ o. columns_read (S.nodes o)) is.1 ∙ unread_child is.0 in omega arith)
+      (λ apart. let a = ap columns_read (at_other q ne apart) in omega arith)
       (child_cases p q))
       (put_cases p q)
 
   -- the columns that were read are those of nodes that have records
-  few : T.columns + columnsWith (mark_of K) ≤ total (λ q. columnsRead (S'.nodes q)) (ps ++ qs)
+  few : T.columns + columns_with (mark_of K) ≤ total (λ q. columns_read (S'.nodes q)) (ps ++ qs)
   few = go r home
     where
       f : Path → ℕ
-      f q = columnsRead (S.nodes q)
+      f q = columns_read (S.nodes q)
 
-      gain : columnsRead (S.nodes p) + columnsOf K ≤ columnsRead (S'.nodes p)
-      gain = let a = ap columnsRead was in let b = ap columnsRead at_node in omega arith
+      gain : columns_read (S.nodes p) + columns_of K ≤ columns_read (S'.nodes p)
+      gain = let a = ap columns_read was in let b = ap columns_read at_this_node in omega arith
 
-      go : (k : ℕ) → Home ps k p → T.columns + columnsWith (mark_of K) ≤ total (λ q. columnsRead (S'.nodes q)) (ps ++ qs)
+      go : (k : ℕ) → Home ps k p → T.columns + columns_with (mark_of K) ≤ total (λ q. columns_read (S'.nodes q)) (ps ++ qs)
       go zero hk = omega (arith, hk.0)
       go (suc j) hk =
-          let t = total_gain (λ q. columnsRead (S.nodes q)) (λ q. columnsRead (S'.nodes q)) (columnsOf K) weighs p gain ps j (omega (arith, hk.1)) hk.2 in
-          omega (arith, t, h.few, columns_with K, total-append (λ q. columnsRead (S'.nodes q)) ps qs)
+          let t = total_gain (λ q. columns_read (S.nodes q)) (λ q. columns_read (S'.nodes q)) (columns_of K) weighs p gain ps j (omega (arith, hk.1)) hk.2 in
+          omega (arith, t, h.few, columns_with_kind K, total-append (λ q. columns_read (S'.nodes q)) ps qs)
 
   -- records that were there
   goes_on : (q : Path) → (q ≡ p → ⊥) → GoesOn T ps S T' (ps ++ qs) S' q
@@ -212,19 +212,19 @@ module _ (T : Sheets) (ps : List Path) (input : List ℕ) (S : Store) (h : Reads
   old_row : (k : ℕ) (q : Path) → Home ps k q → (q ≡ p → ⊥) → Alike (node T' k) (node T k)
   old_row k q hk ne =
       let other : k ≡ r → ⊥ = λ e. ne (home-one ps r q p (subst (λ j. Home ps j q) e hk) home) in
-      alike-trans (node T' k) (node B k) (node T k) (grew.others k (omega (arith, hk.1, h.linked.used)) other) (alike-same (node B k) (node T k) (get_or-set_other T.nodes r k y rootNode other))
+      alike-trans (node T' k) (node B k) (node T k) (grew.others k (omega (arith, hk.1, h.linked.used)) other) (alike-same (node B k) (node T k) (get_or-set_other T.nodes r k y root_node other))
 
   -- so it holds what it held
   kept_other : (k : ℕ) (q : Path) → Home ps k q → (q ≡ p → ⊥) → Kept T' (ps ++ qs) S' q (node T' k) (S'.nodes q)
   kept_other k q hk ne =
-      let start = firstText S u (c ∷ cs) in
+      let start = first_text S u (c ∷ cs) in
       let texts = put_other p q _ (put p start S.texts) ne ∙ put_other p q start S.texts ne in
       subst (Kept T' (ps ++ qs) S' q (node T' k)) (sym (at_other q ne (no_child k q hk)))
       (kept_on T ps S T' (ps ++ qs) S' q (goes_on q ne) (node T k) (node T' k) (old_row k q hk ne) texts (S.nodes q) (h.kept k q hk))
 
   -- the node itself
-  own_row : Alike (node T' r) (withChildren (node T' r).children y)
-  own_row = subst (λ z. Alike (node T' r) (withChildren (node T' r).children z)) (get_or-set_same T.nodes r y rootNode within) grew.parent
+  own_row : Alike (node T' r) (with_children (node T' r).children y)
+  own_row = subst (λ z. Alike (node T' r) (with_children (node T' r).children z)) (get_or-set_same T.nodes r y root_node within) grew.parent
 
   -- the children that came have their records one after another
   child_home : (j : ℕ) (s : Step) → j < length qs → get_or qs j root ≡ p ▹ s → Home (ps ++ qs) ((node T' r).children.first + j) (p ▹ s)
@@ -233,9 +233,9 @@ module _ (T : Sheets) (ps : List Path) (input : List ℕ) (S : Store) (h : Reads
       subst₂ (λ k o. Home (ps ++ qs) k o) first is (grew.homes j l)
 
   -- the numbers of its cells are all its values
-  all_values : ENUM ≡ K → each number (each num (c ∷ cs)) ≡ allOf T' (node T' r)
+  all_values : ENUM ≡ K → each number (each num (c ∷ cs)) ≡ all_of T' (node T' r)
   all_values e =
-      let lies = (subst (λ J. Values (advanced g.spot.taken g.spot.place 0 T) (firstText S u (c ∷ cs)) (found T (mark_of K) (node T r) g).node J (c ∷ cs)) (sym e) came.values).0 in
+      let lies = (subst (λ J. Values (advanced g.spot.taken g.spot.place 0 T) (first_text S u (c ∷ cs)) (found T (mark_of K) (node T r) g).node J (c ∷ cs)) (sym e) came.values).0 in
       ap (each number)
       (lies.left
       ∙ ap (λ k. take k (drop (T.taken + 0) T.slots)) (came.count ∙ sym own_row.count)
@@ -261,12 +261,12 @@ module _ (T : Sheets) (ps : List Path) (input : List ℕ) (S : Store) (h : Reads
   own_values =
       let A = advanced g.spot.taken g.spot.place 0 T in
       let x = (found T (mark_of K) (node T r) g).node in
-      let start = firstText S u (c ∷ cs) in
+      let start = first_text S u (c ∷ cs) in
       let v = values_step A start letters x K c cs text came.values in
       let on : GoesOn A ps S' T' (ps ++ qs) S' p =
       record { taken = omega (arith, grew.taken); place = omega (arith, grew.place); slots = ap (take g.spot.taken) grew.slots; homes = λ k o hk. home-more ps qs k o hk; branches = λ i m. (m, refl) } in
-      let texts : S'.texts p ≡ start + letterCount c = put_here p _ (put p start S.texts) ∙ ap (λ k. k + letterCount c) (put_here p start S.texts) in
-      values_on A ps S' T' (ps ++ qs) S' p on (stepped letters x) (node T' r) own_row.first own_row.done own_row.count own_row.text (start + letterCount c) (S'.texts p) texts K cs (omega (arith, came.count)) v
+      let texts : S'.texts p ≡ start + letter_count c = put_here p _ (put p start S.texts) ∙ ap (λ k. k + letter_count c) (put_here p start S.texts) in
+      values_on A ps S' T' (ps ++ qs) S' p on (stepped letters x) (node T' r) own_row.first own_row.done own_row.count own_row.text (start + letter_count c) (S'.texts p) texts K cs (omega (arith, came.count)) v
 
   -- so its record holds what the node is then
   own_kept : Kept T' (ps ++ qs) S' p (node T' r) (ready K cs)
@@ -278,7 +278,7 @@ module _ (T : Sheets) (ps : List Path) (input : List ℕ) (S : Store) (h : Reads
       let (s, there, leads, alone) = comes p K j l in
       let child : q ≡ p ▹ s = sym is ∙ there in
       let at : k ≡ B.used + j = omega (arith, h.linked.used) in
-      let row = subst (λ i. Alike (node T' i) (unread j (childrenWith (mark_of K) (node T r).count g.sum))) (sym at) (grew.children j l) in
+      let row = subst (λ i. Alike (node T' i) (unread j (children_with (mark_of K) (node T r).count g.sum))) (sym at) (grew.children j l) in
       subst (Kept T' (ps ++ qs) S' q (node T' k)) (sym (ap S'.nodes child ∙ at_child s)) (row.mark, row.count ∙ sym (demanded K s (c ∷ cs) (node T r).count g.sum leads alone came.count came.sum))
 
   -- so the tables stand for the store after it
@@ -293,7 +293,7 @@ module _ (T : Sheets) (ps : List Path) (input : List ℕ) (S : Store) (h : Reads
     rest = ap (λ v. v.input) came.left ∙ ap (λ k. drop k input) (sym grew.place);
     place = omega (arith, h.place, ap length h.rest, length-drop T.place input, ap (λ (v : Supply). length v.input) came.left, length-drop g.spot.place input, came.from, came.within, grew.place);
     within = omega (arith, came.within, grew.place);
-    columns = omega (arith, h.columns, grew.columns, columns_with K);
+    columns = omega (arith, h.columns, grew.columns, columns_with_kind K);
     few = omega (arith, few, grew.columns);
     made = λ q i m. let (k, hk) = h.made q i m in (k, home-more ps qs k (q ▹ alt i) hk);
     making = making;
@@ -326,18 +326,18 @@ module _ (T : Sheets) (ps : List Path) (input : List ℕ) (S : Store) (h : Reads
           new : (j : ℕ) × (j < length qs) × (k ≡ 1 + length ps + j) × (get_or qs j root ≡ q ▹ s) → Fathers s (S'.nodes q)
           new (j, l, e, is) =
               let (t, there, leads, alone) = comes p K j l in
-              subst (Fathers s) (sym (ap S'.nodes (node_above (sym there ∙ is)) ∙ at_node)) (subst (ChildOf K) (step_of (sym there ∙ is)) leads)
+              subst (Fathers s) (sym (ap S'.nodes (node_above (sym there ∙ is)) ∙ at_this_node)) (subst (ChildOf K) (step_of (sym there ∙ is)) leads)
 
-      homes : (q : Path) → isReady (S'.nodes q) ≡ true → (k : ℕ) × Home (ps ++ qs) k q
+      homes : (q : Path) → is_ready (S'.nodes q) ≡ true → (k : ℕ) × Home (ps ++ qs) k q
       homes q e = ⊎_elim
           (λ is. (r, home-more ps qs r q (subst (Home ps r) (sym is) home)))
           (λ ne. ⊎_elim
-          (λ is. absurd (false≢true (sym (ap isReady (ap S'.nodes is.1 ∙ at_child is.0)) ∙ e)))
-          (λ apart. let (k, hk) = h.homes q (ap isReady (sym (at_other q ne apart)) ∙ e) in (k, home-more ps qs k q hk))
+          (λ is. absurd (false≢true (sym (ap is_ready (ap S'.nodes is.1 ∙ at_child is.0)) ∙ e)))
+          (λ apart. let (k, hk) = h.homes q (ap is_ready (sym (at_other q ne apart)) ∙ e) in (k, home-more ps qs k q hk))
           (child_cases p q))
           (put_cases p q)
 
       itself : (k : ℕ) (q : Path) → Home ps k q → q ≡ p → Kept T' (ps ++ qs) S' q (node T' k) (S'.nodes q)
       itself k q o e =
           let one : k ≡ r = h.linked.once k r p (subst (Home ps k) e o) home in
-          subst (λ z. Kept T' (ps ++ qs) S' z (node T' k) (S'.nodes z)) (sym e) (subst₂ (Kept T' (ps ++ qs) S' p) (sym (ap (node T') one)) (sym at_node) own_kept)
+          subst (λ z. Kept T' (ps ++ qs) S' z (node T' k) (S'.nodes z)) (sym e) (subst₂ (Kept T' (ps ++ qs) S' p) (sym (ap (node T') one)) (sym at_this_node) own_kept)

@@ -6,17 +6,17 @@ use Rattle.document.specs.declared.questions.Question.{Question}
 use Rattle.document.specs.declared.questions.Question.TheVariants as questions
 use Rattle.document.specs.Calls.{Kind, SCALAR, TEXT, SEQ, MAP, ENUM, UNIT, TUPLE, Cell, num, str, Value, scalar, text, none, some, variant, seq, map, tuple, val}
 use Rattle.document.specs.Nodes.{root}
-use Rattle.document.specs.Reader.{Ask, scalar?, text?, option?, variant?, seq?, map?, tuple?, asks, worth, worthOf, childOf as childAt, taken}
+use Rattle.document.specs.Reader.{Ask, scalar?, text?, option?, variant?, seq?, map?, tuple?, asks, worth, worth_of, child_of as child_at, taken}
 use Rattle.de.specs.declared.records.Node.{Node as Row}
 use Rattle.de.specs.Moves.{Sheets, advanced}
 use Rattle.de.specs.Asked.{branching}
 use Rattle.de.specs.Answered.{Answers}
 use Rattle.de.specs.Reads.{Values}
 use Rattle.de.specs.Hearing.{Stands, HearSafe}
-use Rattle.de.proofs.Answering.{lettersAt, Worths, worth_is, Branches, branches}
+use Rattle.de.proofs.Answering.{letters_at, Worths, worth_is, Branches, branches}
 
 -- a text lies in what was read
-pub text_fits : (T : Sheets) (start : ℕ) (x : Row) (K : Kind) (c : Cell) (cs : List Cell) (letters : ℕ) → Values T start x K (c ∷ cs) → letters ≡ lettersAt K c → 0 < letters → x.text + letters ≤ T.place
+pub text_fits : (T : Sheets) (start : ℕ) (x : Row) (K : Kind) (c : Cell) (cs : List Cell) (letters : ℕ) → Values T start x K (c ∷ cs) → letters ≡ letters_at K c → 0 < letters → x.text + letters ≤ T.place
 text_fits T start x (SCALAR k) c cs letters v e l = absurd (omega arith)
 text_fits T start x TEXT c cs letters v e l = omega (arith, v.2, v.3.0)
 text_fits T start x SEQ c cs letters v e l = absurd (omega arith)
@@ -26,11 +26,11 @@ text_fits T start x UNIT c cs letters v e l = absurd (omega arith)
 text_fits T start x (TUPLE n) c cs letters v e l = absurd (omega arith)
 
 -- an index is one of 256
-pub index_fits : (T : Sheets) (start : ℕ) (x : Row) (a : Ask) (c : Cell) (cs : List Cell) (w : Value) (y : Answer) (place : ℕ) → worthOf a c ≡ worth w → Answers y (val w) place → Values T start x (asks a) (c ∷ cs) → asks a ≡ ENUM → (i : ℕ) → branching y ≡ options.Some i → i < 256
+pub index_fits : (T : Sheets) (start : ℕ) (x : Row) (a : Ask) (c : Cell) (cs : List Cell) (w : Value) (y : Answer) (place : ℕ) → worth_of a c ≡ worth w → Answers y (val w) place → Values T start x (asks a) (c ∷ cs) → asks a ≡ ENUM → (i : ℕ) → branching y ≡ options.Some i → i < 256
 index_fits T start x a c cs w y place worths ans v enum i e = go a enum v (worth_is a c w worths)
   where
-    bare : (z : Value) → w ≡ z → Branches root y (childAt root z)
-    bare z s = subst (λ u. Branches root y (childAt root u)) s (branches y w place root ans)
+    bare : (z : Value) → w ≡ z → Branches root y (child_at root z)
+    bare z s = subst (λ u. Branches root y (child_at root u)) s (branches y w place root ans)
 
     go : (b : Ask) → asks b ≡ ENUM → Values T start x (asks b) (c ∷ cs) → Worths b c w → i < 256
     go (scalar? k) is u s = let z = bare (scalar k (num c)) s in cc

@@ -6,14 +6,14 @@ use Rattle.std.proofs.lemmas.List.{append-nil, length-map, length-take-le, get_o
 use Rattle.std.proofs.lemmas.Bool.{cases_eq, cases_lt, cases_Bool, cond-true, cond-false, ne_eqb, false≢true}
 use Rattle.chain.specs.declared.Chain.{Chain}
 use Rattle.chain.specs.Chains.{Runs, longer, appended}
-use Rattle.chain.proofs.Tables.{set-adjust, length-adjust, getD-adjust-same, getD-adjust-other, length-appended, appended-keeps, getD-appended-place, nexts-appended}
+use Rattle.chain.proofs.Tables.{set-adjust, length-adjust, get_or-adjust-same, get_or-adjust-other, length-appended, appended-keeps, get_or-appended-place, nexts-appended}
 use Rattle.document.specs.Calls.{Kind}
 use Rattle.document.specs.Nodes.{Path, root, ◌▹◌, Step, same}
 use Rattle.document.specs.Records.{brought}
 use Rattle.document.proofs.Paths.{same_self, not-child}
 use Rattle.document.proofs.Allotting.{length-brought}
-use Rattle.nodes.specs.Marks.{mark_of, familyOf}
-use Rattle.nodes.specs.Homes.{node_of, Home, ordinal, isChild, places, Threads}
+use Rattle.nodes.specs.Marks.{mark_of, family_of}
+use Rattle.nodes.specs.Homes.{node_of, Home, ordinal, is_child, places, Threads}
 use Rattle.nodes.proofs.Homes.{home-more, home-cases, home-one, child-one}
 use Rattle.nodes.proofs.PlacesOf.{places-none, places-append, places-last}
 use Rattle.nodes.proofs.Families.{family-takes, brought-at}
@@ -21,8 +21,8 @@ use Rattle.nodes.proofs.Seeking.{child-step}
 use Rattle.nodes.proofs.Threading.{threads-on, threads-off}
 use Rattle.de.specs.declared.records.Node.{Node as Row}
 use Rattle.document.specs.Reader.{Node, fresh, ready, Store}
-use Rattle.de.specs.Moves.{Sheets, noChain, node, rootNode, unread, withNext, withChildren, spawned, grown, replaced, advanced}
-use Rattle.de.specs.Reads.{Fathers, isReady, nexts, Linked, Reads}
+use Rattle.de.specs.Moves.{Sheets, no_chain, node, root_node, unread, with_next, with_children, spawned, grown, replaced, advanced}
+use Rattle.de.specs.Reads.{Fathers, is_ready, nexts, Linked, Reads}
 
 -- ---- records alike
 
@@ -37,7 +37,7 @@ pub record Alike (x y : Row) : Type 0 where
   pub children : x.children ≡ y.children
 
 -- they are the same once nothing comes next
-pub alike-from : (x y : Row) → withNext x 0 ≡ withNext y 0 → Alike x y
+pub alike-from : (x y : Row) → with_next x 0 ≡ with_next y 0 → Alike x y
 alike-from x y e =
     record {
       mark = ap (λ (z : Row). z.mark) e;
@@ -51,7 +51,7 @@ alike-from x y e =
 
 -- a record is like an equal one
 pub alike-same : (x y : Row) → x ≡ y → Alike x y
-alike-same x y e = alike-from x y (ap (λ z. withNext z 0) e)
+alike-same x y e = alike-from x y (ap (λ z. with_next z 0) e)
 
 -- what is like y is like z if y is
 pub alike-trans : (x y z : Row) → Alike x y → Alike y z → Alike x z
@@ -67,7 +67,7 @@ alike-trans x y z a b =
     }
 
 -- two changes of the children are one
-pub alike-children : (x y z : Row) (c d : Chain) → Alike x (withChildren c y) → Alike y (withChildren d z) → Alike x (withChildren x.children z)
+pub alike-children : (x y z : Row) (c d : Chain) → Alike x (with_children c y) → Alike y (with_children d z) → Alike x (with_children x.children z)
 alike-children x y z c d a b =
     record {
       mark = a.mark ∙ b.mark;
@@ -87,51 +87,51 @@ module _ (r i n : ℕ) (T : Sheets) where
   chain = longer (node T r).children T.used
 
   abbrev rows : List Row
-  rows = appended withNext T.nodes (node T r).children.last T.used (unread i n)
+  rows = appended with_next T.nodes (node T r).children.last T.used (unread i n)
 
   -- there are as many records as before
   length-rows : length rows ≡ length T.nodes
-  length-rows = length-appended withNext T.nodes (node T r).children.last T.used (unread i n)
+  length-rows = length-appended with_next T.nodes (node T r).children.last T.used (unread i n)
 
   -- the table keeps its length
   pub length-spawned : length (spawned r i n T).nodes ≡ length T.nodes
-  length-spawned = length-adjust (withChildren chain) r rows ∙ length-rows
+  length-spawned = length-adjust (with_children chain) r rows ∙ length-rows
 
   -- it is the last one of r
   pub spawned-last : r < length T.nodes → (node (spawned r i n T) r).children.last ≡ T.used
-  spawned-last l = ap (λ (x : Row). x.children.last) (getD-adjust-same (withChildren chain) r rows rootNode (omega (arith, length-rows)))
+  spawned-last l = ap (λ (x : Row). x.children.last) (get_or-adjust-same (with_children chain) r rows root_node (omega (arith, length-rows)))
 
   -- the next ones of the records
   pub nexts-spawned : r < length T.nodes → nexts (spawned r i n T) ≡ appended (λ _ k. k) (nexts T) (node T r).children.last T.used 0
   nexts-spawned l =
-      ap (each (λ x. x.next)) (sym (set-adjust (withChildren chain) rows r rootNode (omega (arith, length-rows))))
-      ∙ map-set_same (λ x. x.next) rows r _ rootNode refl
-      ∙ nexts-appended withNext T.nodes (node T r).children.last T.used (unread i n) (λ x. x.next) (λ x k. refl)
+      ap (each (λ x. x.next)) (sym (set-adjust (with_children chain) rows r root_node (omega (arith, length-rows))))
+      ∙ map-set_same (λ x. x.next) rows r _ root_node refl
+      ∙ nexts-appended with_next T.nodes (node T r).children.last T.used (unread i n) (λ x. x.next) (λ x k. refl)
 
   module _ (room : T.used < length T.nodes) where
     -- a record that is not the new one differs at most in the one that comes next
-    linked-row : (k : ℕ) → k ≢ T.used → withNext (get_or rows k rootNode) 0 ≡ withNext (node T k) 0
-    linked-row k ne = appended-keeps withNext T.nodes (node T r).children.last T.used (unread i n) (λ x. withNext x 0) (λ x m. refl) k rootNode room ∙ cond-false (eqb k T.used) _ _ (ne_eqb k T.used ne)
+    linked-row : (k : ℕ) → k ≢ T.used → with_next (get_or rows k root_node) 0 ≡ with_next (node T k) 0
+    linked-row k ne = appended-keeps with_next T.nodes (node T r).children.last T.used (unread i n) (λ x. with_next x 0) (λ x m. refl) k root_node room ∙ cond-false (eqb k T.used) _ _ (ne_eqb k T.used ne)
 
     -- every other record is as it was, but for the one that comes next
     pub spawned-others : (k : ℕ) → k ≢ r → k ≢ T.used → Alike (node (spawned r i n T) k) (node T k)
-    spawned-others k nr nu = alike-from _ _ (ap (λ x. withNext x 0) (getD-adjust-other (withChildren chain) r k rows rootNode nr) ∙ linked-row k nu)
+    spawned-others k nr nu = alike-from _ _ (ap (λ x. with_next x 0) (get_or-adjust-other (with_children chain) r k rows root_node nr) ∙ linked-row k nu)
 
     -- r has a child more
-    pub spawned-parent : r < length T.nodes → r ≢ T.used → Alike (node (spawned r i n T) r) (withChildren (longer (node T r).children T.used) (node T r))
-    spawned-parent l nu = alike-from _ _ (ap (λ x. withNext x 0) (getD-adjust-same (withChildren chain) r rows rootNode (omega (arith, length-rows))) ∙ ap (withChildren chain) (linked-row r nu))
+    pub spawned-parent : r < length T.nodes → r ≢ T.used → Alike (node (spawned r i n T) r) (with_children (longer (node T r).children T.used) (node T r))
+    spawned-parent l nu = alike-from _ _ (ap (λ x. with_next x 0) (get_or-adjust-same (with_children chain) r rows root_node (omega (arith, length-rows))) ∙ ap (with_children chain) (linked-row r nu))
 
     -- the child is to be read
     pub spawned-child : r ≢ T.used → (node T r).children.last ≢ T.used → node (spawned r i n T) T.used ≡ unread i n
     spawned-child nr nl =
-        getD-adjust-other (withChildren chain) r T.used rows rootNode (λ e. nr (sym e))
-        ∙ getD-appended-place withNext T.nodes (node T r).children.last T.used (unread i n) rootNode (λ e. nl (sym e)) room
+        get_or-adjust-other (with_children chain) r T.used rows root_node (λ e. nr (sym e))
+        ∙ get_or-appended-place with_next T.nodes (node T r).children.last T.used (unread i n) root_node (λ e. nl (sym e)) room
 
 -- ---- the links
 
 -- the children of a node that has a record: the last of them is in use
 pub linked-tail : (T : Sheets) (ps : List Path) → Linked T ps → (r : ℕ) (p : Path) → Home ps r p → (node T r).children.last < T.used
-linked-tail T ps L r p home = omega (arith, L.used, (L.children r p home).1, places-last (isChild p) 1 ps (omega arith))
+linked-tail T ps L r p home = omega (arith, L.used, (L.children r p home).1, places-last (is_child p) 1 ps (omega arith))
 
 -- the links lie in the records, as far as they are used
 pub linked-same : (T U : Sheets) (ps : List Path) → U.nodes ≡ T.nodes → U.used ≡ T.used → Linked T ps → Linked U ps
@@ -140,8 +140,8 @@ linked-same T U ps e f L =
       used = f ∙ L.used;
       first = L.first;
       once = L.once;
-      indices = λ k q h. ap (λ xs. (get_or xs k rootNode).index) e ∙ L.indices k q h;
-      children = λ k q h. subst (λ xs. Threads (each (λ x. x.next) xs) (get_or xs k rootNode).children (places (isChild q) 1 ps)) (sym e) (L.children k q h);
+      indices = λ k q h. ap (λ xs. (get_or xs k root_node).index) e ∙ L.indices k q h;
+      children = λ k q h. subst (λ xs. Threads (each (λ x. x.next) xs) (get_or xs k root_node).children (places (is_child q) 1 ps)) (sym e) (L.children k q h);
     }
 
 -- .. so more columns leave them
@@ -150,7 +150,7 @@ linked-advanced T ps taken place more L = linked-same T (advanced taken place mo
 
 -- what another record for r does not change is as it was at each record
 pub replaced-keeps : {Y : Type 0} (g : Row → Y) (r : ℕ) (x : Row) (T : Sheets) → g x ≡ g (node T r) → (k : ℕ) → g (node (replaced r x T) k) ≡ g (node T k)
-replaced-keeps g r x T e k = sym (get_or-map g (set T.nodes r x) k rootNode) ∙ ap (λ ys. get_or ys k (g rootNode)) (map-set_same g T.nodes r x rootNode e) ∙ get_or-map g T.nodes k rootNode
+replaced-keeps g r x T e k = sym (get_or-map g (set T.nodes r x) k root_node) ∙ ap (λ ys. get_or ys k (g root_node)) (map-set_same g T.nodes r x root_node e) ∙ get_or-map g T.nodes k root_node
 
 -- another record for r leaves the links if it has the same ones
 pub linked-replaced : (T : Sheets) (ps : List Path) (r : ℕ) (x : Row) → x.index ≡ (node T r).index → x.next ≡ (node T r).next → x.children ≡ (node T r).children → Linked T ps → Linked (replaced r x T) ps
@@ -160,7 +160,7 @@ linked-replaced T ps r x i n c L =
       first = L.first;
       once = L.once;
       indices = λ k q h. replaced-keeps (λ y. y.index) r x T i k ∙ L.indices k q h;
-      children = λ k q h. subst₂ (λ ns d. Threads ns d (places (isChild q) 1 ps)) (sym (map-set_same (λ y. y.next) T.nodes r x rootNode n)) (sym (replaced-keeps (λ y. y.children) r x T c k)) (L.children k q h);
+      children = λ k q h. subst₂ (λ ns d. Threads ns d (places (is_child q) 1 ps)) (sym (map-set_same (λ y. y.next) T.nodes r x root_node n)) (sym (replaced-keeps (λ y. y.children) r x T c k)) (L.children k q h);
     }
 
 -- ---- more nodes
@@ -197,7 +197,7 @@ parents-more ps r p s all home k q t h = ⊎_elim
     above (x ▹ t) = x
 
 -- a node with a child was read
-pub fathers-ready : (x : Node) (s : Step) → Fathers s x → isReady x ≡ true
+pub fathers-ready : (x : Node) (s : Step) → Fathers s x → is_ready x ≡ true
 fathers-ready (fresh n) s f = absurd f
 fathers-ready (ready K cs) s f = refl
 
@@ -251,31 +251,31 @@ module _ (T : Sheets) (ps : List Path) (L : Linked T ps) (parents : Parents ps) 
       elsewhere k x h ne e = ne (L.once k r x h (subst (Home ps r) e home))
 
       -- it has no child
-      childless : places (isChild (p ▹ s)) 1 (ps ++ (p ▹ s) ∷ []) ≡ []
-      childless = places-none (isChild (p ▹ s)) 1 (ps ++ (p ▹ s) ∷ []) root
+      childless : places (is_child (p ▹ s)) 1 (ps ++ (p ▹ s) ∷ []) ≡ []
+      childless = places-none (is_child (p ▹ s)) 1 (ps ++ (p ▹ s) ∷ []) root
           (λ j l e. let (t, f) = child-step (p ▹ s) (get_or (ps ++ (p ▹ s) ∷ []) j root) e in
           ⊎_elim (λ h. let (a, b) = parents (suc j) (p ▹ s) t h in none a b) (λ h. own (p ▹ s) t h.1) (home-cases ps (p ▹ s) (suc j) (p ▹ s ▹ t) (omega arith, omega arith, f)))
 
-      moved : (k : ℕ) (x : Path) (c : Chain) → (node (spawned r i n T) k).children ≡ c → Threads (appended (λ _ m. m) (nexts T) (node T r).children.last T.used 0) c (places (isChild x) 1 (ps ++ (p ▹ s) ∷ []))
-          → Threads (nexts (spawned r i n T)) (node (spawned r i n T) k).children (places (isChild x) 1 (ps ++ (p ▹ s) ∷ []))
-      moved k x c e h = subst₂ (λ ns d. Threads ns d (places (isChild x) 1 (ps ++ (p ▹ s) ∷ []))) (sym (nexts-spawned r i n T within)) (sym e) h
+      moved : (k : ℕ) (x : Path) (c : Chain) → (node (spawned r i n T) k).children ≡ c → Threads (appended (λ _ m. m) (nexts T) (node T r).children.last T.used 0) c (places (is_child x) 1 (ps ++ (p ▹ s) ∷ []))
+          → Threads (nexts (spawned r i n T)) (node (spawned r i n T) k).children (places (is_child x) 1 (ps ++ (p ▹ s) ∷ []))
+      moved k x c e h = subst₂ (λ ns d. Threads ns d (places (is_child x) 1 (ps ++ (p ▹ s) ∷ []))) (sym (nexts-spawned r i n T within)) (sym e) h
 
-      old : (k : ℕ) (x : Path) → Home ps k x → Threads (nexts (spawned r i n T)) (node (spawned r i n T) k).children (places (isChild x) 1 (ps ++ (p ▹ s) ∷ []))
+      old : (k : ℕ) (x : Path) → Home ps k x → Threads (nexts (spawned r i n T)) (node (spawned r i n T) k).children (places (is_child x) 1 (ps ++ (p ▹ s) ∷ []))
       old k x h = ⊎_elim
           (λ e. let same-node : x ≡ p = home-one ps r x p (subst (λ j. Home ps j x) e h) home in
           let chain = ap (λ j. (node (spawned r i n T) j).children) e ∙ (spawned-parent r i n T room within used).children in
           moved k x (longer (node T r).children T.used) chain
-          (subst (λ y. Threads (appended (λ _ m. m) (nexts T) (node T r).children.last T.used 0) (longer (node T r).children T.used) (places (isChild y) 1 (ps ++ (p ▹ s) ∷ []))) (sym same-node)
-          (threads-on (isChild p) (nexts T) (node T r).children ps (p ▹ s) T.used L.used (omega (arith, length-map T.nodes (λ y. y.next))) (same_self p) (L.children r p home))))
-          (λ ne. let other : isChild x (p ▹ s) ≡ false = ⊎_elim (λ e. absurd (elsewhere k x h ne (child-one p x (p ▹ s) (same_self p) e))) (λ e. e) (cases_Bool (isChild x (p ▹ s))) in
+          (subst (λ y. Threads (appended (λ _ m. m) (nexts T) (node T r).children.last T.used 0) (longer (node T r).children T.used) (places (is_child y) 1 (ps ++ (p ▹ s) ∷ []))) (sym same-node)
+          (threads-on (is_child p) (nexts T) (node T r).children ps (p ▹ s) T.used L.used (omega (arith, length-map T.nodes (λ y. y.next))) (same_self p) (L.children r p home))))
+          (λ ne. let other : is_child x (p ▹ s) ≡ false = ⊎_elim (λ e. absurd (elsewhere k x h ne (child-one p x (p ▹ s) (same_self p) e))) (λ e. e) (cases_Bool (is_child x (p ▹ s))) in
           moved k x (node T k).children (spawned-others r i n T room k ne (λ e. omega (arith, L.used, h.1))).children
-          (threads-off (isChild p) (isChild x) (λ y a b. elsewhere k x h ne (child-one p x y a b)) (nexts T) (node T r).children (node T k).children ps (p ▹ s) root T.used L.used other (L.children r p home) (L.children k x h)))
+          (threads-off (is_child p) (is_child x) (λ y a b. elsewhere k x h ne (child-one p x y a b)) (nexts T) (node T r).children (node T k).children ps (p ▹ s) root T.used L.used other (L.children r p home) (L.children k x h)))
           (cases_eq k r)
 
-      new : (k : ℕ) (x : Path) → (k ≡ 1 + length ps) × (x ≡ p ▹ s) → Threads (nexts (spawned r i n T)) (node (spawned r i n T) k).children (places (isChild x) 1 (ps ++ (p ▹ s) ∷ []))
+      new : (k : ℕ) (x : Path) → (k ≡ 1 + length ps) × (x ≡ p ▹ s) → Threads (nexts (spawned r i n T)) (node (spawned r i n T) k).children (places (is_child x) 1 (ps ++ (p ▹ s) ∷ []))
       new k x e =
-          subst₂ (λ c y. Threads (nexts (spawned r i n T)) c (places (isChild y) 1 (ps ++ (p ▹ s) ∷ []))) (sym (ap (λ (y : Row). y.children) (there k e.0))) (sym e.1)
-          (subst (Threads (nexts (spawned r i n T)) noChain) (sym childless) (refl, refl))
+          subst₂ (λ c y. Threads (nexts (spawned r i n T)) c (places (is_child y) 1 (ps ++ (p ▹ s) ∷ []))) (sym (ap (λ (y : Row). y.children) (there k e.0))) (sym e.1)
+          (subst (Threads (nexts (spawned r i n T)) no_chain) (sym childless) (refl, refl))
 
 -- ---- so many children
 
@@ -309,7 +309,7 @@ module _ (r n : ℕ) (T : Sheets) (within : r < T.used) where
       alike-trans _ _ _ (spawned-others r m n (grown r m n T) (omega arith) k ne (λ e. omega arith)) (grown-others m k (omega arith) l ne)
 
   -- so is r but for its children
-  pub grown-parent : (m : ℕ) → T.used + m ≤ length T.nodes → Alike (node (grown r m n T) r) (withChildren (node (grown r m n T) r).children (node T r))
+  pub grown-parent : (m : ℕ) → T.used + m ≤ length T.nodes → Alike (node (grown r m n T) r) (with_children (node (grown r m n T) r).children (node T r))
   grown-parent zero room = alike-same _ _ refl
   grown-parent (suc m) room =
       let used = grown-used r m n T in
@@ -343,26 +343,26 @@ pub brought-ordered : (p : Path) (K : Kind) → Ordered p (brought p K)
 brought-ordered p K j h = brought-at p K j (omega (arith, length-brought p K))
 
 -- as many children come with a kind's mark as the kind brings
-pub family-brought : (p : Path) (K : Kind) → familyOf (mark_of K) ≡ length (brought p K)
+pub family-brought : (p : Path) (K : Kind) → family_of (mark_of K) ≡ length (brought p K)
 family-brought p K = family-takes K ∙ sym (length-brought p K)
 
 -- the first child of a node that had none
-pub first-child : (T : Sheets) (ps qs : List Path) → Linked T (ps ++ qs) → (r : ℕ) (p : Path) → Home ps r p → ((k : ℕ) (s : Step) → Home ps k (p ▹ s) → ⊥) → 0 < length qs → isChild p (get_or qs 0 root) ≡ true → (node T r).children.first ≡ 1 + length ps
+pub first-child : (T : Sheets) (ps qs : List Path) → Linked T (ps ++ qs) → (r : ℕ) (p : Path) → Home ps r p → ((k : ℕ) (s : Step) → Home ps k (p ▹ s) → ⊥) → 0 < length qs → is_child p (get_or qs 0 root) ≡ true → (node T r).children.first ≡ 1 + length ps
 first-child T ps [] L r p home none some is = absurd (omega arith)
 first-child T ps (q ∷ qs) L r p home none some is = (subst (Runs (nexts T) (node T r).children.first) there (L.children r p (home-more ps (q ∷ qs) r p home)).0).0
   where
-    no-child : places (isChild p) 1 ps ≡ []
-    no-child = places-none (isChild p) 1 ps root (λ j l e. let (s, f) = child-step p (get_or ps j root) e in none (suc j) s (omega arith, omega arith, f))
+    no-child : places (is_child p) 1 ps ≡ []
+    no-child = places-none (is_child p) 1 ps root (λ j l e. let (s, f) = child-step p (get_or ps j root) e in none (suc j) s (omega arith, omega arith, f))
 
-    there : places (isChild p) 1 (ps ++ q ∷ qs) ≡ (1 + length ps) ∷ places (isChild p) (suc (1 + length ps)) qs
-    there = places-append (isChild p) 1 ps (q ∷ qs) ∙ ap (λ is. is ++ places (isChild p) (1 + length ps) (q ∷ qs)) no-child ∙ cond-true (isChild p q) _ _ is
+    there : places (is_child p) 1 (ps ++ q ∷ qs) ≡ (1 + length ps) ∷ places (is_child p) (suc (1 + length ps)) qs
+    there = places-append (is_child p) 1 ps (q ∷ qs) ∙ ap (λ is. is ++ places (is_child p) (1 + length ps) (q ∷ qs)) no-child ∙ cond-true (is_child p q) _ _ is
 
 -- The tables T' are T with a record of n values for each of the nodes qs, which are the first children of r.
 pub record Grew (T T' : Sheets) (ps qs : List Path) (r n : ℕ) : Type 0 where
   pub linked : Linked T' (ps ++ qs)
   pub parents : Parents (ps ++ qs)
   pub others : (k : ℕ) → k < T.used → k ≢ r → Alike (node T' k) (node T k)
-  pub parent : Alike (node T' r) (withChildren (node T' r).children (node T r))
+  pub parent : Alike (node T' r) (with_children (node T' r).children (node T r))
   pub first : 0 < length qs → (node T' r).children.first ≡ T.used
   pub children : (j : ℕ) → j < length qs → Alike (node T' (T.used + j)) (unread j n)
   pub homes : (j : ℕ) → j < length qs → Home (ps ++ qs) (T.used + j) (get_or qs j root)
@@ -406,7 +406,7 @@ module _ (T : Sheets) (ps : List Path) (L : Linked T ps) (parents : Parents ps) 
         parents = P';
         others = λ k l ne. grown-others r n T within m k room l ne;
         parent = grown-parent r n T within m room;
-        first = λ some. let (s, f, o) = kids 0 some in first-child (grown r m n T) ps qs L' r p home none some (ap (isChild p) f ∙ same_self p) ∙ sym L.used;
+        first = λ some. let (s, f, o) = kids 0 some in first-child (grown r m n T) ps qs L' r p home none some (ap (is_child p) f ∙ same_self p) ∙ sym L.used;
         children = λ j l. grown-child r n T within (linked-tail T ps L r p home) m j room (omega arith);
         homes = λ j l. let k : 1 + length ps + j ≡ T.used + j = omega (arith, L.used) in subst (λ i. Home (ps ++ qs) i (get_or qs j root)) k (home-come ps qs j l);
         used = omega (arith, grown-used r m n T);
@@ -418,5 +418,5 @@ module _ (T : Sheets) (ps : List Path) (L : Linked T ps) (parents : Parents ps) 
       }
 
   -- So are all that a kind brings.
-  pub linked-grow : (K : Kind) → T.used + familyOf (mark_of K) ≤ length T.nodes → Grew T (grown r (familyOf (mark_of K)) n T) ps (brought p K) r n
-  linked-grow K room = linked-all (brought p K) (brought-ordered p K) (familyOf (mark_of K)) (family-brought p K) room
+  pub linked-grow : (K : Kind) → T.used + family_of (mark_of K) ≤ length T.nodes → Grew T (grown r (family_of (mark_of K)) n T) ps (brought p K) r n
+  linked-grow K room = linked-all (brought p K) (brought-ordered p K) (family_of (mark_of K)) (family-brought p K) room

@@ -4,10 +4,10 @@ use Rattle.std.proofs.lemmas.List.{drop-take, take-take}
 use Rattle.document.specs.Calls.{total, Kind, SCALAR, TEXT, SEQ, MAP, ENUM, UNIT, TUPLE, Cell, number}
 use Rattle.document.specs.Nodes.{Path, ◌▹◌, elem, key, value, field, alt, demand}
 use Rattle.document.specs.Reader.{Node, fresh, ready, Store}
-use Rattle.nodes.specs.Homes.{Home, isChild, places, Threads}
+use Rattle.nodes.specs.Homes.{Home, is_child, places, Threads}
 use Rattle.de.specs.declared.records.Node.{Node as Row}
-use Rattle.de.specs.Moves.{Sheets, node, rootNode}
-use Rattle.de.specs.Reads.{Lies, allOf, Values, Children, Kept, Reads}
+use Rattle.de.specs.Moves.{Sheets, node, root_node}
+use Rattle.de.specs.Reads.{Lies, all_of, Values, Children, Kept, Reads}
 use Rattle.de.specs.Served.{Spared}
 use Rattle.de.proofs.Growing.{Alike, alike-same}
 
@@ -30,7 +30,7 @@ pub record GoesOn (T : Sheets) (ps : List Path) (S : Store) (T' : Sheets) (ps' :
 
 module _ (T : Sheets) (ps : List Path) (S : Store) (T' : Sheets) (ps' : List Path) (S' : Store) (q : Path) (on : GoesOn T ps S T' ps' S' q) (x y : Row) where
   -- all values of a node are as they were
-  all_on : y.first ≡ x.first → y.count ≡ x.count → x.first + x.count ≤ T.taken → allOf T' y ≡ allOf T x
+  all_on : y.first ≡ x.first → y.count ≡ x.count → x.first + x.count ≤ T.taken → all_of T' y ≡ all_of T x
   all_on first count h =
       ap (λ k. each number (take k (drop y.first T'.slots))) count
       ∙ ap (λ k. each number (take x.count (drop k T'.slots))) first
@@ -90,7 +90,7 @@ reads_spared T T' ps input S h s =
         first = h.linked.first;
         once = h.linked.once;
         indices = λ r p home. ap (λ x. x.index) (same r) ∙ h.linked.indices r p home;
-        children = λ r p home. subst₂ (λ ns x. Threads (each (λ y. y.next) ns) x.children (places (isChild p) 1 ps)) (sym s.nodes) (sym (same r)) (h.linked.children r p home);
+        children = λ r p home. subst₂ (λ ns x. Threads (each (λ y. y.next) ns) x.children (places (is_child p) 1 ps)) (sym s.nodes) (sym (same r)) (h.linked.children r p home);
       };
       rooted = h.rooted ∙ sym (ap (λ ns. ltb 1 (length ns)) s.nodes);
       records = h.records ∙ sym (ap₂ (λ ns u. min (length ns) 65536 - u) s.nodes s.used);
@@ -110,7 +110,7 @@ reads_spared T T' ps input S h s =
     }
   where
     same : (r : ℕ) → node T' r ≡ node T r
-    same r = ap (λ ns. get_or ns r rootNode) s.nodes
+    same r = ap (λ ns. get_or ns r root_node) s.nodes
 
     on : (q : Path) → GoesOn T ps S T' ps S q
     on q =

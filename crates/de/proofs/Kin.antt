@@ -7,9 +7,9 @@ use Rattle.document.specs.declared.scalars.Scalar.{Scalar}
 use Rattle.document.specs.declared.scalars.Scalar.TheVariants as scalars
 use Rattle.document.specs.Calls.{width, num, Kind, SCALAR, TEXT, SEQ, MAP, ENUM, UNIT, TUPLE, Cell}
 use Rattle.document.specs.Nodes.{Path, Step}
-use Rattle.document.specs.Fetch.{columnsOf}
+use Rattle.document.specs.Fetch.{columns_of}
 use Rattle.document.specs.Reader.{Store, code, kin}
-use Rattle.document.specs.Verdict.{kindNumber}
+use Rattle.document.specs.Verdict.{kind_number}
 use Rattle.document.proofs.Accepting.{kind-number-injective}
 use Rattle.de.specs.declared.records.Node.{Node as Row}
 use Rattle.de.specs.Moves.{Sheets}
@@ -35,7 +35,7 @@ unsigned UNIT = UNIT
 unsigned (TUPLE n) = TUPLE n
 
 -- the number of the unsigned kind tells it
-number-code : (K : Kind) → kindNumber (unsigned K) ≡ cond (ltb (code K) 5) (code K) (4 + code K)
+number-code : (K : Kind) → kind_number (unsigned K) ≡ cond (ltb (code K) 5) (code K) (4 + code K)
 unfolding unsigned
 number-code (SCALAR scalars.Bool) = refl
 number-code (SCALAR scalars.U8) = refl
@@ -114,5 +114,5 @@ pub kin_child : (s : Step) (J K : Kind) → kin J K ≡ true → ChildOf J s →
 kin_child s = kin_holds (λ K. ChildOf K s) (λ j k w h. h)
 
 -- .. and the number of columns
-pub kin_columns : (J K : Kind) → kin J K ≡ true → columnsOf J ≤ columnsOf K
-kin_columns J K e = kin_holds (λ K. columnsOf J ≤ columnsOf K) (λ j k w h. h) J K e (omega arith)
+pub kin_columns : (J K : Kind) → kin J K ≡ true → columns_of J ≤ columns_of K
+kin_columns J K e = kin_holds (λ K. columns_of J ≤ columns_of K) (λ j k w h. h) J K e (omega arith)

@@ -4,21 +4,21 @@ use Rattle.column.specs.Meaning.{Meaning}
 use Rattle.document.specs.declared.refusals.Refusal.{Refusal}
 use Rattle.document.specs.Calls.{Kind}
 use Rattle.document.specs.Fetch.{denied, fetch}
-use Rattle.nodes.specs.Marks.{mark_of, familyOf}
+use Rattle.nodes.specs.Marks.{mark_of, family_of}
 use Rattle.de.specs.declared.records.Node.{Node}
 use Rattle.de.specs.declared.columns.Spot.{Spot}
 use Rattle.de.specs.declared.columns.Gain.{Gain}
 use Rattle.de.specs.declared.view.View.{View}
 use Rattle.de.specs.Columns.{usable, left_at, Reads, CellsStored}
-use Rattle.de.specs.Moves.{Sheets, node, isFresh, lacksNodes}
-use Rattle.de.specs.Viewed.{spotOf, found, Finds, Answers, LooksAs, Looks}
+use Rattle.de.specs.Moves.{Sheets, node, is_fresh, lacks_nodes}
+use Rattle.de.specs.Viewed.{spot_of, found, Finds, Answers, LooksAs, Looks}
 
 -- the record's columns are read where they were not read yet and records do not lack: from the spot on, into slots that are then these
-module _ (col : Meaning) (input : List ℕ) (T : Sheets) (slots : List ℕ) (r : ℕ) (K : Kind) (x : Node) (seen : x ≡ node T r) (new : isFresh x ≡ true) (free : lacksNodes T (familyOf (mark_of K)) ≡ false)
-    (room : ℕ) (size : room ≡ usable (length T.slots)) (spot : Spot) (begun : spot ≡ spotOf T) where
+module _ (col : Meaning) (input : List ℕ) (T : Sheets) (slots : List ℕ) (r : ℕ) (K : Kind) (x : Node) (seen : x ≡ node T r) (new : is_fresh x ≡ true) (free : lacks_nodes T (family_of (mark_of K)) ≡ false)
+    (room : ℕ) (size : room ≡ usable (length T.slots)) (spot : Spot) (begun : spot ≡ spot_of T) where
   -- what was read is what looking tells
-  looks : (res : Result View Refusal) → Answers (Finds input T slots K x) (fetch col T.columns K x.count (left_at (usable (length T.slots)) input (spotOf T))) res → Looks col input T slots r K res
-  looks res a = subst (λ y. LooksAs col input T slots K y (isFresh y) (lacksNodes T (familyOf (mark_of K))) res) seen (rw (new, free) a)
+  looks : (res : Result View Refusal) → Answers (Finds input T slots K x) (fetch col T.columns K x.count (left_at (usable (length T.slots)) input (spot_of T))) res → Looks col input T slots r K res
+  looks res a = subst (λ y. LooksAs col input T slots K y (is_fresh y) (lacks_nodes T (family_of (mark_of K))) res) seen (rw (new, free) a)
 
   -- what was read gives the view
   pub looks-found : (now : List ℕ) → now ≡ slots → (gain : Gain) (v : View) → v ≡ found T (mark_of K) x gain

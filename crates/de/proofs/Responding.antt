@@ -12,14 +12,14 @@ use Rattle.document.specs.declared.questions.Question.{Question}
 use Rattle.document.specs.declared.questions.Question.TheVariants as questions
 use Rattle.document.specs.Calls.{tuple}
 use Rattle.document.specs.Nodes.{Path}
-use Rattle.document.specs.Places.{Place, opens, tooMany}
+use Rattle.document.specs.Places.{Place, opens, too_many}
 use Rattle.document.specs.Reader.{Ask, scalar?, text?, option?, variant?, seq?, map?, tuple?, Store, Reply, refuse, consult, opening, rooted}
 use Rattle.nodes.specs.declared.places.State.TheVariants as states
 use Rattle.nodes.proofs.Homes.{home-more}
 use Rattle.de.specs.declared.heard.Heard.{Heard}
 use Rattle.de.specs.Moves.{Sheets}
-use Rattle.de.specs.Asked.{opensAny}
-use Rattle.de.specs.Answered.{questionOf}
+use Rattle.de.specs.Asked.{opens_any}
+use Rattle.de.specs.Answered.{question_of}
 use Rattle.de.specs.Reads.{Reads}
 use Rattle.de.specs.Served.{served, Replied, Consulted, Responded}
 use Rattle.de.proofs.Keeping.{spared-same}
@@ -27,17 +27,17 @@ use Rattle.de.proofs.Sizes.{lengths_same}
 
 module _ (col : Meaning) (input : List ℕ) (r : ℕ) (q : Question) (deep : Bool) (T : Sheets) where
   -- a place too many, whatever the answer
-  pub responds_full : (deep && opensAny q) ≡ true → Responded col input r q deep T T (Err refusals.Depth)
+  pub responds_full : (deep && opens_any q) ≡ true → Responded col input r q deep T T (Err refusals.Depth)
   unfolding Responded
-  responds_full full ps S p gs h home few at = subst (λ m. Replied ps input gs T T m (Err refusals.Depth)) (sym (go q (and_parts deep (opensAny q) full).1)) (refl, spared-same T T refl)
+  responds_full full ps S p gs h home few at = subst (λ m. Replied ps input gs T T m (Err refusals.Depth)) (sym (go q (and_parts deep (opens_any q) full).1)) (refl, spared-same T T refl)
     where
-      many : tooMany (suc (length gs)) ≡ true
-      many = sym at ∙ (and_parts deep (opensAny q) full).0
+      many : too_many (suc (length gs)) ≡ true
+      many = sym at ∙ (and_parts deep (opens_any q) full).0
 
       opened : (x : Reply) → opening gs x ≡ refuse refusals.Depth
-      opened x = cond-true (tooMany (suc (length gs))) (refuse refusals.Depth) x many
+      opened x = cond-true (too_many (suc (length gs))) (refuse refusals.Depth) x many
 
-      go : (q : Question) → opensAny q ≡ true → served col S p gs q ≡ refuse refusals.Depth
+      go : (q : Question) → opens_any q ≡ true → served col S p gs q ≡ refuse refusals.Depth
       go (questions.Scalar k) e = absurd (false≢true e)
       go questions.Text e = absurd (false≢true e)
       go questions.Unit e = absurd (false≢true e)
@@ -48,10 +48,10 @@ module _ (col : Meaning) (input : List ℕ) (r : ℕ) (q : Question) (deep : Boo
       go (questions.Tuple n) e = opened _
       go questions.End e = absurd (false≢true e)
 
-  module _ (roomy : (deep && opensAny q) ≡ false) where
+  module _ (roomy : (deep && opens_any q) ≡ false) where
     -- a question that opens a place has room for it
-    opened_as : (gs : List Place) → deep ≡ tooMany (suc (length gs)) → opensAny q ≡ true → (x : Reply) → opening gs x ≡ x
-    opened_as gs at e x = cond-false (tooMany (suc (length gs))) (refuse refusals.Depth) x (sym at ∙ sym (and-true deep) ∙ sym (ap (λ b. deep && b) e) ∙ roomy)
+    opened_as : (gs : List Place) → deep ≡ too_many (suc (length gs)) → opens_any q ≡ true → (x : Reply) → opening gs x ≡ x
+    opened_as gs at e x = cond-false (too_many (suc (length gs))) (refuse refusals.Depth) x (sym at ∙ sym (and-true deep) ∙ sym (ap (λ b. deep && b) e) ∙ roomy)
 
     -- without a record for the root
     pub responds_rootless : ltb 1 (length T.nodes) ≡ false → Responded col input r q deep T T (Err refusals.Nodes)
@@ -66,10 +66,10 @@ module _ (col : Meaning) (input : List ℕ) (r : ℕ) (q : Question) (deep : Boo
         go questions.Text e = bare _
         go questions.Unit e = bare _
         go questions.Option e = bare _
-        go questions.Variant e = opened_as gs at (sym (ap opensAny e)) _ ∙ bare _
-        go (questions.Seq flag) e = opened_as gs at (sym (ap opensAny e)) _ ∙ bare _
-        go (questions.Map flag) e = opened_as gs at (sym (ap opensAny e)) _ ∙ bare _
-        go (questions.Tuple n) e = opened_as gs at (sym (ap opensAny e)) _ ∙ bare _
+        go questions.Variant e = opened_as gs at (sym (ap opens_any e)) _ ∙ bare _
+        go (questions.Seq flag) e = opened_as gs at (sym (ap opens_any e)) _ ∙ bare _
+        go (questions.Map flag) e = opened_as gs at (sym (ap opens_any e)) _ ∙ bare _
+        go (questions.Tuple n) e = opened_as gs at (sym (ap opens_any e)) _ ∙ bare _
         go questions.End e = bare _
 
     module _ (some : ltb 1 (length T.nodes) ≡ true) where
@@ -97,9 +97,9 @@ module _ (col : Meaning) (input : List ℕ) (r : ℕ) (q : Question) (deep : Boo
       unfolding Responded
       responds_lone is ps S p gs h home few at =
           let x : Heard = record { answer = answers.Tuple; opened = options.Some (states.Lone r 1) } in
-          let opens_one = sym (ap opensAny is) in
+          let opens_one = sym (ap opens_any is) in
           subst (λ k. Replied ps input gs T T (served col S p gs k) (Ok x)) (sym is)
-          (subst (λ m. Replied ps input gs T T m (Ok x)) (sym (opened_as gs at (ap opensAny is) _ ∙ root_there ps S h _)) (
+          (subst (λ m. Replied ps input gs T T m (Ok x)) (sym (opened_as gs at (ap opens_any is) _ ∙ root_there ps S h _)) (
             x,
             opens p (tuple 1),
             refl,
@@ -110,7 +110,7 @@ module _ (col : Meaning) (input : List ℕ) (r : ℕ) (q : Question) (deep : Boo
               more = [];
               reads = subst (λ qs. Reads T qs input S) (sym (append-nil ps)) h;
               opens = (r, refl, home-more ps [] r p home);
-              few = ltb-false 33 (suc (length gs)) (sym at ∙ sym (and-true deep) ∙ sym (ap (λ k. deep && opensAny k) is) ∙ roomy);
+              few = ltb-false 33 (suc (length gs)) (sym at ∙ sym (and-true deep) ∙ sym (ap (λ k. deep && opens_any k) is) ∙ roomy);
               lengths = lengths_same T T refl;
             },
           ))
@@ -123,18 +123,18 @@ module _ (col : Meaning) (input : List ℕ) (r : ℕ) (q : Question) (deep : Boo
           (subst (λ m. Replied ps input gs T T m (Err refusals.Count)) (sym (root_there ps S h _)) (refl, spared-same T T refl))
 
       -- every other question asks its node
-      pub responds : (T' : Sheets) (res : Result Heard Refusal) → (a : Ask) → q ≡ questionOf a → (q ≡ questions.Tuple 1 → ⊥) → Consulted col input r q deep T T' res → Responded col input r q deep T T' res
+      pub responds : (T' : Sheets) (res : Result Heard Refusal) → (a : Ask) → q ≡ question_of a → (q ≡ questions.Tuple 1 → ⊥) → Consulted col input r q deep T T' res → Responded col input r q deep T T' res
       unfolding Responded Consulted
       responds T' res a is many consulted ps S p gs h home few at =
           subst (λ m. Replied ps input gs T T' m res) (sym (go a is)) (consulted ps S p gs a h home is few at)
         where
-          go : (b : Ask) → q ≡ questionOf b → served col S p gs q ≡ consult col S p gs b
+          go : (b : Ask) → q ≡ question_of b → served col S p gs q ≡ consult col S p gs b
           go (scalar? k) e = ap (served col S p gs) e ∙ root_there ps S h _
           go text? e = ap (served col S p gs) e ∙ root_there ps S h _
           go option? e = ap (served col S p gs) e ∙ root_there ps S h _
-          go variant? e = ap (served col S p gs) e ∙ opened_as gs at (ap opensAny e) _ ∙ root_there ps S h _
-          go (seq? flag) e = ap (served col S p gs) e ∙ opened_as gs at (ap opensAny e) _ ∙ root_there ps S h _
-          go (map? flag) e = ap (served col S p gs) e ∙ opened_as gs at (ap opensAny e) _ ∙ root_there ps S h _
-          go (tuple? zero) e = ap (served col S p gs) e ∙ opened_as gs at (ap opensAny e) _ ∙ root_there ps S h _
+          go variant? e = ap (served col S p gs) e ∙ opened_as gs at (ap opens_any e) _ ∙ root_there ps S h _
+          go (seq? flag) e = ap (served col S p gs) e ∙ opened_as gs at (ap opens_any e) _ ∙ root_there ps S h _
+          go (map? flag) e = ap (served col S p gs) e ∙ opened_as gs at (ap opens_any e) _ ∙ root_there ps S h _
+          go (tuple? zero) e = ap (served col S p gs) e ∙ opened_as gs at (ap opens_any e) _ ∙ root_there ps S h _
           go (tuple? (suc zero)) e = absurd (many e)
-          go (tuple? (suc (suc n))) e = ap (served col S p gs) e ∙ opened_as gs at (ap opensAny e) _ ∙ root_there ps S h _
+          go (tuple? (suc (suc n))) e = ap (served col S p gs) e ∙ opened_as gs at (ap opens_any e) _ ∙ root_there ps S h _

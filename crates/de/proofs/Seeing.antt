@@ -9,7 +9,7 @@ use Rattle.document.specs.Fetch.{Supply, supply, fetched, fetch}
 use Rattle.document.specs.Tables.{takes}
 use Rattle.document.specs.Records.{brought}
 use Rattle.document.specs.Reader.{fresh, ready, Store, kin, taken, opened}
-use Rattle.nodes.specs.Marks.{mark_of, familyOf}
+use Rattle.nodes.specs.Marks.{mark_of, family_of}
 use Rattle.nodes.specs.Homes.{Home}
 use Rattle.de.specs.declared.view.View.{View}
 use Rattle.de.specs.declared.columns.Gain.{Gain}
@@ -17,14 +17,14 @@ use Rattle.de.specs.Moves.{Sheets, node, advanced}
 use Rattle.de.specs.Reads.{Values, Kept, Reads}
 use Rattle.de.specs.Served.{Spared}
 use Rattle.de.specs.Viewed.{known, found, Finds}
-use Rattle.de.specs.Taken.{stepped, takenIn}
+use Rattle.de.specs.Taken.{stepped, taken_in}
 use Rattle.de.proofs.Keeping.{GoesOn, values_on, reads_spared}
 use Rattle.de.proofs.Kin.{kin_values, kin_child}
 use Rattle.de.proofs.Viewing.{Viewed, before, now}
-use Rattle.de.proofs.Answering.{lettersAt}
+use Rattle.de.proofs.Answering.{letters_at}
 use Rattle.de.proofs.Taking.{takes_before, put_here}
 use Rattle.de.proofs.Branching.{Branching}
-use Rattle.de.proofs.FirstTaking.{Came, firstText, takes_first}
+use Rattle.de.proofs.FirstTaking.{Came, first_text, takes_first}
 
 -- the tables with other slots
 abbrev pub reslotted : List ℕ → Sheets → Sheets
@@ -48,12 +48,12 @@ pub record Seen (U : Sheets) (ps : List Path) (input : List ℕ) (S st : Store) 
   pub usable : v.gain.spot.taken ≤ min (length U.slots) 1048576
   pub within : v.gain.spot.place ≤ length input
   pub values : Values (advanced v.gain.spot.taken v.gain.spot.place 0 U) (st.texts p) v.node K cs
-  pub room : v.fresh ≡ true → U.used + familyOf v.node.mark ≤ min (length U.nodes) 65536
+  pub room : v.fresh ≡ true → U.used + family_of v.node.mark ≤ min (length U.nodes) 65536
   pub records : K ≡ ENUM → st.records ≡ S.records
   pub made : (q : Path) → st.made q ≡ S.made q
   pub rooted : st.rooted ≡ S.rooted
   pub branching : K ≡ ENUM → Branching (S.nodes p)
-  pub takes : (c : Cell) (ds : List Cell) (letters : ℕ) → cs ≡ c ∷ ds → letters ≡ lettersAt K c → (more : List Path) × Reads (takenIn r v letters U) (ps ++ more) input (taken p K c ds st)
+  pub takes : (c : Cell) (ds : List Cell) (letters : ℕ) → cs ≡ c ∷ ds → letters ≡ letters_at K c → (more : List Path) × Reads (taken_in r v letters U) (ps ++ more) input (taken p K c ds st)
 
 module _ (col : Meaning) (input : List ℕ) (T : Sheets) (slots : List ℕ) (ps : List Path) (S : Store) (h : Reads T ps input S) (size : length slots ≡ length T.slots) (spared : take T.taken slots ≡ take T.taken T.slots) (r : ℕ) (p : Path) (home : Home ps r p) (rooted : S.rooted ≡ true) (K : Kind) where
   -- the tables with these slots
@@ -88,7 +88,7 @@ module _ (col : Meaning) (input : List ℕ) (T : Sheets) (slots : List ℕ) (ps 
         branching = λ e. subst Branching (sym was) (λ s f. kin_child s J ENUM (ap (kin J) (sym e) ∙ is_kin) f);
         takes = λ c ds letters e text.
             let t = takes_before U ps input S still r p home rooted J K c ds (was ∙ ap (ready J) e) is_kin (stepped letters (known T (mark_of K) (node T r)).node) letters refl text in
-            ([], subst (λ qs. Reads (takenIn r (known T (mark_of K) (node T r)) letters U) qs input (taken p K c ds S)) (sym (append-nil ps)) t);
+            ([], subst (λ qs. Reads (taken_in r (known T (mark_of K) (node T r)) letters U) qs input (taken p K c ds S)) (sym (append-nil ps)) t);
       }
 
   -- its columns were read just now
@@ -100,7 +100,7 @@ module _ (col : Meaning) (input : List ℕ) (T : Sheets) (slots : List ℕ) (ps 
         children = refl;
         usable = came.usable;
         within = came.within;
-        values = subst (λ s. Values (advanced g.spot.taken g.spot.place 0 U) s (found T (mark_of K) (node T r) g).node K cs) (sym (put_here p (firstText S u cs) S.texts)) came.values;
+        values = subst (λ s. Values (advanced g.spot.taken g.spot.place 0 U) s (found T (mark_of K) (node T r) g).node K cs) (sym (put_here p (first_text S u cs) S.texts)) came.values;
         room = λ e. came.room;
         records = λ e. let z = ap takes_of e in omega (arith, z);
         made = λ q. refl;
@@ -108,7 +108,7 @@ module _ (col : Meaning) (input : List ℕ) (T : Sheets) (slots : List ℕ) (ps 
         branching = λ e. subst Branching (sym was) (λ s f. absurd f);
         takes = λ c ds letters e text. (
           brought p K,
-          subst (λ xs. Reads (takenIn r (found T (mark_of K) (node T r) g) letters U) (ps ++ brought p K) input (taken p K c ds (opened p K xs u S))) (sym e)
+          subst (λ xs. Reads (taken_in r (found T (mark_of K) (node T r) g) letters U) (ps ++ brought p K) input (taken p K c ds (opened p K xs u S))) (sym e)
               (takes_first U ps input S still r p home rooted n was K c ds u g (subst (λ xs. Came U input S (node T r) K xs u g) e came) letters text),
         );
       }
@@ -117,7 +117,7 @@ module _ (col : Meaning) (input : List ℕ) (T : Sheets) (slots : List ℕ) (ps 
       takes_of J = takes J
 
   -- so it is in each case, if what was read is what the definitions read
-  pub seeing : ((n : ℕ) (cs : List Cell) (u : Supply) (v : View) → S.nodes p ≡ fresh n → T.used + familyOf (mark_of K) ≤ min (length T.nodes) 65536 → fetch col S.columns K n (supply S.slots S.input) ≡ fetched cs u → Finds input T slots K (node T r) cs u v
+  pub seeing : ((n : ℕ) (cs : List Cell) (u : Supply) (v : View) → S.nodes p ≡ fresh n → T.used + family_of (mark_of K) ≤ min (length T.nodes) 65536 → fetch col S.columns K n (supply S.slots S.input) ≡ fetched cs u → Finds input T slots K (node T r) cs u v
       → (g : Gain) × (v ≡ found T (mark_of K) (node T r) g) × Came U input S (node T r) K cs u g)
       → (v : View) (cs : List Cell) (st : Store) → Viewed col input T slots S (node T r) p K v cs st → Seen U ps input S st r p K v cs
   seeing comes v cs st (before J was is_kin is same) = subst₂ (λ w s. Seen U ps input S s r p K w cs) (sym is) (sym same) (seen_before J cs was is_kin)

@@ -4,5 +4,5 @@ use Rattle.de.specs.declared.records.Node.{Node}
 use Rattle.de.specs.Moves.{Sheets}
 
 -- these records and slots, used so far
-abbrev pub sheetsOf : List Node → List ℕ → ℕ → ℕ → ℕ → ℕ → Sheets
-sheetsOf ns ss u t p m = record { nodes = ns; slots = ss; used = u; taken = t; place = p; columns = m }
+abbrev pub sheets_of : List Node → List ℕ → ℕ → ℕ → ℕ → ℕ → Sheets
+sheets_of ns ss u t p m = record { nodes = ns; slots = ss; used = u; taken = t; place = p; columns = m }

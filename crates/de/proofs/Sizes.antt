@@ -2,11 +2,11 @@
 use Rattle.std.proofs.Common.{◌≡◌, ℕ, Bool, true, false, cond, eqb, length, Option, refl, ap, ◌∙◌, length-set}
 use Rattle.std.proofs.Math.Nat.{ℕ_set}
 use Rattle.std.specs.declared.option.Option.TheVariants as options
-use Rattle.nodes.specs.Marks.{familyOf}
+use Rattle.nodes.specs.Marks.{family_of}
 use Rattle.de.specs.declared.view.View.{View}
 use Rattle.de.specs.Moves.{Sheets, node, spawned, grown, replaced, advanced}
 use Rattle.de.specs.Served.{Spared, SameLengths}
-use Rattle.de.specs.Taken.{columnsWith, childCount, stepped, takenIn, occurrences, branched}
+use Rattle.de.specs.Taken.{columns_with, child_count, stepped, taken_in, occurrences, branched}
 use Rattle.de.proofs.Growing.{length-spawned, length-grown, grown-rest}
 
 -- equal tables are as long
@@ -34,17 +34,17 @@ lengths_grown : (r m n : ℕ) (T : Sheets) → SameLengths T (grown r m n T)
 lengths_grown r m n T = record { nodes = length-grown r m n T; slots = grown-rest (λ U. length U.slots) (λ a i c U. refl) r m n T }
 
 -- an answer is taken
-pub lengths_taken : (r : ℕ) (v : View) (letters : ℕ) (T : Sheets) → SameLengths T (takenIn r v letters T)
+pub lengths_taken : (r : ℕ) (v : View) (letters : ℕ) (T : Sheets) → SameLengths T (taken_in r v letters T)
 lengths_taken r v letters T = go v.fresh
   where
     once : Sheets
     once = replaced r (stepped letters v.node) T
 
     read : Sheets
-    read = advanced v.gain.spot.taken v.gain.spot.place (columnsWith v.node.mark) once
+    read = advanced v.gain.spot.taken v.gain.spot.place (columns_with v.node.mark) once
 
-    go : (b : Bool) → SameLengths T (cond b (grown r (familyOf v.node.mark) (childCount v) read) once)
-    go true = lengths_trans (record { nodes = length-set T.nodes r (stepped letters v.node); slots = refl }) (lengths_grown r (familyOf v.node.mark) (childCount v) read)
+    go : (b : Bool) → SameLengths T (cond b (grown r (family_of v.node.mark) (child_count v) read) once)
+    go true = lengths_trans (record { nodes = length-set T.nodes r (stepped letters v.node); slots = refl }) (lengths_grown r (family_of v.node.mark) (child_count v) read)
     go false = record { nodes = length-set T.nodes r (stepped letters v.node); slots = refl }
 
 -- a new index gets a record

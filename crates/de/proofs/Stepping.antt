@@ -8,12 +8,12 @@ use Rattle.document.specs.declared.questions.Question.{Question}
 use Rattle.document.specs.declared.questions.Question.TheVariants as questions
 use Rattle.document.specs.Calls.{Call, end}
 use Rattle.document.specs.Nodes.{Path, root}
-use Rattle.document.specs.Places.{Place, only, closing, Next, nowhere, there, next, full, settle, tooMany}
+use Rattle.document.specs.Places.{Place, only, closing, Next, nowhere, there, next, full, settle, too_many}
 use Rattle.document.specs.Reader.{Store, Reading, reading, Reply, reply, refuse, standing, answer}
 use Rattle.nodes.specs.declared.places.State.{State}
 use Rattle.nodes.specs.declared.places.State.TheVariants as states
 use Rattle.nodes.specs.declared.places.Places.{Places}
-use Rattle.nodes.specs.Ahead.{Ahead, nowhere as no_record, there as at_record, ahead, isFull}
+use Rattle.nodes.specs.Ahead.{Ahead, nowhere as no_record, there as at_record, ahead, is_full}
 use Rattle.nodes.specs.Stack.{levels, stack, top, turned, settled, opening, rest, replaced}
 use Rattle.nodes.specs.Homes.{Home}
 use Rattle.nodes.specs.Placed.{Stacked, Open, Opens}
@@ -25,7 +25,7 @@ use Rattle.de.specs.Moves.{sheets}
 use Rattle.de.specs.Reads.{Reads}
 use Rattle.de.specs.Answered.{Answers, Within}
 use Rattle.de.specs.Served.{served, Spared, SameLengths, Replied, Responded}
-use Rattle.de.specs.Steps.{Plan, declines, closes, begins, asks, onAhead, onQuestion, plan, isDeep, shut, begun, counted, Took}
+use Rattle.de.specs.Steps.{Plan, declines, closes, begins, asks, on_ahead, on_question, plan, is_deep, shut, begun, counted, Took}
 use Rattle.de.specs.Standing.{Stands}
 use Rattle.de.proofs.Aiming.{asks_ahead, open_top}
 use Rattle.de.proofs.Keeping.{spared-same}
@@ -53,8 +53,8 @@ Stepped input old new (reply c place R) res = (x : Heard) × (res ≡ Ok x) × M
 
 -- What holds where a value is asked for and where `end` is asked holds at each question.
 by_question : (P : Question → Plan → Reply → Type 0) (col : Meaning) (st : Store) (s : State) (f : Place) (fs : List Place)
-    → ((q : Question) → P q (onQuestion s) (standing (next f) (λ p g. served col st p (g ∷ fs) q)))
-    → P questions.End (cond (isFull s) closes (declines refusals.Count)) (cond (full f) (reply end 0 (reading (settle fs) st)) (refuse refusals.Count))
+    → ((q : Question) → P q (on_question s) (standing (next f) (λ p g. served col st p (g ∷ fs) q)))
+    → P questions.End (cond (is_full s) closes (declines refusals.Count)) (cond (full f) (reply end 0 (reading (settle fs) st)) (refuse refusals.Count))
     → (q : Question) → P q (plan s q) (answer col st (f ∷ fs) q)
 by_question P col st s f fs value last (questions.Scalar k) = value (questions.Scalar k)
 by_question P col st s f fs value last questions.Text = value questions.Text
@@ -69,7 +69,7 @@ by_question P col st s f fs value last questions.End = last
 -- ---- depth and places
 
 -- with d places open in the code, the definitions have one more, and a further one is too many where d is 32
-deep_is : (d : ℕ) (gs : List Place) → d ≤ 32 → length gs ≡ suc d → eqb d 32 ≡ tooMany (suc (length gs))
+deep_is : (d : ℕ) (gs : List Place) → d ≤ 32 → length gs ≡ suc d → eqb d 32 ≡ too_many (suc (length gs))
 deep_is d gs l e = ⊎_elim
     (λ q. eq-eqb d 32 q ∙ sym (lt-ltb 33 (suc (length gs)) (omega arith)))
     (λ q. ne_eqb d 32 q ∙ sym (le-ltb 33 (suc (length gs)) (omega arith)))
@@ -104,11 +104,11 @@ module _ (col : Meaning) (input : List ℕ) (old new : Desk) (R : Reading) (S : 
   table-turned s e = ap (λ (p : Places). length p.table) e ∙ simp length-set
 
   -- a refusal
-  refused : (q : Question) (e : Refusal) (res : Result Heard Refusal) → Took col input q (isDeep old) old new res (declines e) → Stepped input old new (refuse e) res
+  refused : (q : Question) (e : Refusal) (res : Result Heard Refusal) → Took col input q (is_deep old) old new res (declines e) → Stepped input old new (refuse e) res
   refused q e res (is, tables, places) = (is, unturned places, spared-same (sheets old.tables) (sheets new.tables) (ap sheets tables))
 
   -- `end` closes the place
-  closed : (fs : List Place) (res : Result Heard Refusal) → Stacked S.nodes below fs → Took col input questions.End (isDeep old) old new res closes
+  closed : (fs : List Place) (res : Result Heard Refusal) → Stacked S.nodes below fs → Took col input questions.End (is_deep old) old new res closes
       → Stepped input old new (reply end 0 (reading (settle fs) R.store)) res
   closed fs res h (is, tables, places) = (
     _,
@@ -127,7 +127,7 @@ module _ (col : Meaning) (input : List ℕ) (old new : Desk) (R : Reading) (S : 
 
   -- a value of the record r, which is p's, in a place whose state is t then
   asked : (q : Question) (r : ℕ) (t : State) (p : Path) (g : Place) (fs : List Place) (res : Result Heard Refusal) → Home S.nodes r p → Stacked S.nodes (t ∷ below) (g ∷ fs)
-      → Took col input q (isDeep old) old new res (asks r t) → Stepped input old new (served col R.store p (g ∷ fs) q) res
+      → Took col input q (is_deep old) old new res (asks r t) → Stepped input old new (served col R.store p (g ∷ fs) q) res
   unfolding Responded
   asked q r t p g fs res home h (responded, places) =
       go (served col R.store p (g ∷ fs) q) (responded S.nodes R.store p (g ∷ fs) S.reads home (omega (arith, many, S.depth)) (deep_is old.places.depth (g ∷ fs) S.depth many))
@@ -156,7 +156,7 @@ module _ (col : Meaning) (input : List ℕ) (old new : Desk) (R : Reading) (S : 
       )
 
   -- the document's value
-  started : (q : Question) (res : Result Heard Refusal) → below ≡ [] → Took col input q (isDeep old) old new res begins → Stepped input old new (served col R.store root (closing ∷ []) q) res
+  started : (q : Question) (res : Result Heard Refusal) → below ≡ [] → Took col input q (is_deep old) old new res begins → Stepped input old new (served col R.store root (closing ∷ []) q) res
   unfolding Responded
   started q res none_below (x, is, responded, places) =
       go (served col R.store root (closing ∷ []) q) (responded S.nodes R.store root (closing ∷ []) S.reads S.reads.linked.first (omega arith) refl)
@@ -183,7 +183,7 @@ module _ (col : Meaning) (input : List ℕ) (old new : Desk) (R : Reading) (S : 
           )
 
   -- a value where the next one stands, if there is one
-  ahead-stepped : (q : Question) (fs : List Place) (res : Result Heard Refusal) (a : Ahead) (n : Next) → Leads S.nodes a n → Stacked S.nodes below fs → Took col input q (isDeep old) old new res (onAhead a)
+  ahead-stepped : (q : Question) (fs : List Place) (res : Result Heard Refusal) (a : Ahead) (n : Next) → Leads S.nodes a n → Stacked S.nodes below fs → Took col input q (is_deep old) old new res (on_ahead a)
       → Stepped input old new (standing n (λ p g. served col R.store p (g ∷ fs) q)) res
   ahead-stepped q fs res no_record nowhere l h took = refused q refusals.Count res took
   ahead-stepped q fs res no_record (there p g) l h took = absurd l
@@ -191,25 +191,25 @@ module _ (col : Meaning) (input : List ℕ) (old new : Desk) (R : Reading) (S : 
   ahead-stepped q fs res (at_record r t) (there p g) l h took = asked q r t p g fs res l.0 (l.1, h) took
 
   -- `end`
-  end-stepped : (fs : List Place) (res : Result Heard Refusal) (b : Bool) → Stacked S.nodes below fs → Took col input questions.End (isDeep old) old new res (cond b closes (declines refusals.Count))
+  end-stepped : (fs : List Place) (res : Result Heard Refusal) (b : Bool) → Stacked S.nodes below fs → Took col input questions.End (is_deep old) old new res (cond b closes (declines refusals.Count))
       → Stepped input old new (cond b (reply end 0 (reading (settle fs) R.store)) (refuse refusals.Count)) res
   end-stepped fs res true h took = closed fs res h took
   end-stepped fs res false h took = refused questions.End refusals.Count res took
 
   -- what a step tells is what the definitions answer
-  pub stepped : (q : Question) (res : Result Heard Refusal) → Took col input q (isDeep old) old new res (plan (top old.places) q) → Stepped input old new (answer col R.store R.places q) res
+  pub stepped : (q : Question) (res : Result Heard Refusal) → Took col input q (is_deep old) old new res (plan (top old.places) q) → Stepped input old new (answer col R.store R.places q) res
   stepped q res took = go R.places (open_top old input R S some)
     where
       go : (fs : List Place) → Open S.nodes (top old.places ∷ below) fs → Stepped input old new (answer col R.store fs q) res
       go fs (inl (is, none_below, first)) =
           rw first
-          (by_question (λ q pl a. Took col input q (isDeep old) old new res pl → Stepped input old new a res) col R.store states.Root (only root) []
+          (by_question (λ q pl a. Took col input q (is_deep old) old new res pl → Stepped input old new a res) col R.store states.Root (only root) []
           (λ q. started q res none_below)
           (refused questions.End refusals.Count res)
-          q (subst (λ s. Took col input q (isDeep old) old new res (plan s q)) is took))
+          q (subst (λ s. Took col input q (is_deep old) old new res (plan s q)) is took))
       go [] (inr h) = absurd h
       go (f ∷ fs) (inr (placed, h)) =
-          by_question (λ q pl a. Took col input q (isDeep old) old new res pl → Stepped input old new a res) col R.store (top old.places) f fs
-          (λ q took. ahead-stepped q fs res (ahead (top old.places)) (next f) (leads S.nodes (top old.places) f placed) h (subst (Took col input q (isDeep old) old new res) (asks_ahead S.nodes (top old.places) f placed) took))
-          (λ took. end-stepped fs res (full f) h (subst (λ b. Took col input questions.End (isDeep old) old new res (cond b closes (declines refusals.Count))) (full_is S.nodes (top old.places) f placed) took))
+          by_question (λ q pl a. Took col input q (is_deep old) old new res pl → Stepped input old new a res) col R.store (top old.places) f fs
+          (λ q took. ahead-stepped q fs res (ahead (top old.places)) (next f) (leads S.nodes (top old.places) f placed) h (subst (Took col input q (is_deep old) old new res) (asks_ahead S.nodes (top old.places) f placed) took))
+          (λ took. end-stepped fs res (full f) h (subst (λ b. Took col input questions.End (is_deep old) old new res (cond b closes (declines refusals.Count))) (full_is S.nodes (top old.places) f placed) took))
           q took

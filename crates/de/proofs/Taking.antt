@@ -3,19 +3,19 @@ use Rattle.std.proofs.Common.{◌≡◌, ℕ, zero, suc, ◌+◌, ◌-◌, ◌<�
 use Rattle.std.proofs.lemmas.Bool.{cases_Bool, cond-true, cond-false, false≢true}
 use Rattle.document.specs.Calls.{total, Kind, Cell}
 use Rattle.document.specs.Nodes.{Path, root, ◌▹◌, Step, alt, same}
-use Rattle.document.specs.Reader.{ready, Store, kin, put, letterCount, taken}
+use Rattle.document.specs.Reader.{ready, Store, kin, put, letter_count, taken}
 use Rattle.document.proofs.Paths.{same_self, same_true}
 use Rattle.nodes.specs.Marks.{mark_of}
 use Rattle.nodes.specs.Homes.{Home}
 use Rattle.nodes.proofs.Homes.{home-one}
 use Rattle.de.specs.declared.records.Node.{Node as Row}
-use Rattle.de.specs.Moves.{Sheets, node, rootNode, replaced}
-use Rattle.de.specs.Reads.{Fathers, isReady, columnsRead, Kept, Reads}
+use Rattle.de.specs.Moves.{Sheets, node, root_node, replaced}
+use Rattle.de.specs.Reads.{Fathers, is_ready, columns_read, Kept, Reads}
 use Rattle.de.specs.Viewed.{remarked}
 use Rattle.de.specs.Taken.{stepped}
 use Rattle.de.proofs.Growing.{alike-same, linked-replaced}
 use Rattle.de.proofs.Keeping.{GoesOn, enum_within, children_on, values_on, kept_on}
-use Rattle.de.proofs.Answering.{lettersAt, values_step}
+use Rattle.de.proofs.Answering.{letters_at, values_step}
 use Rattle.de.proofs.Kin.{kin_values, kin_children, kin_child, kin_columns}
 
 -- ---- sums over the nodes
@@ -66,17 +66,17 @@ module _ (T : Sheets) (ps : List Path) (input : List ℕ) (S : Store) (h : Reads
 
   -- it is another record then
   here : node T' r ≡ y
-  here = get_or-set_same T.nodes r y rootNode within
+  here = get_or-set_same T.nodes r y root_node within
 
   -- every other record is as it was
   elsewhere : (k : ℕ) (q : Path) → Home ps k q → (q ≡ p → ⊥) → node T' k ≡ node T k
-  elsewhere k q hk ne = get_or-set_other T.nodes r k y rootNode (λ e. ne (home-one ps r q p (subst (λ j. Home ps j q) e hk) home))
+  elsewhere k q hk ne = get_or-set_other T.nodes r k y root_node (λ e. ne (home-one ps r q p (subst (λ j. Home ps j q) e hk) home))
 
   -- no node has fewer columns than it had
-  weighs : (q : Path) → columnsRead (S.nodes q) ≤ columnsRead (S'.nodes q)
+  weighs : (q : Path) → columns_read (S.nodes q) ≤ columns_read (S'.nodes q)
   weighs q = ⊎_elim
-      (λ e. let a = ap columnsRead (ap S.nodes e ∙ was) in let b = ap columnsRead (ap S'.nodes e ∙ put_here p (ready K cs) S.nodes) in omega (arith, kin_columns H K is_kin))
-      (λ ne. let b = ap columnsRead (put_other p q (ready K cs) S.nodes ne) in omega arith)
+      (λ e. let a = ap columns_read (ap S.nodes e ∙ was) in let b = ap columns_read (ap S'.nodes e ∙ put_here p (ready K cs) S.nodes) in omega (arith, kin_columns H K is_kin))
+      (λ ne. let b = ap columns_read (put_other p q (ready K cs) S.nodes ne) in omega arith)
       (put_cases p q)
 
   -- a branch without a record is as it was
@@ -97,10 +97,10 @@ module _ (T : Sheets) (ps : List Path) (input : List ℕ) (S : Store) (h : Reads
   -- the other nodes
   kept_other : (k : ℕ) (q : Path) → Home ps k q → (q ≡ p → ⊥) → Kept T' ps S' q (node T' k) (S'.nodes q)
   kept_other k q hk ne = subst (Kept T' ps S' q (node T' k)) (sym (put_other p q (ready K cs) S.nodes ne))
-      (kept_on T ps S T' ps S' q (goes_on q) (node T k) (node T' k) (alike-same (node T' k) (node T k) (elsewhere k q hk ne)) (put_other p q (S.texts p + letterCount c) S.texts ne) (S.nodes q) (h.kept k q hk))
+      (kept_on T ps S T' ps S' q (goes_on q) (node T k) (node T' k) (alike-same (node T' k) (node T k) (elsewhere k q hk ne)) (put_other p q (S.texts p + letter_count c) S.texts ne) (S.nodes q) (h.kept k q hk))
 
   -- the node itself, of which the record y is what it was with one value more answered
-  module _ (is_y : y ≡ stepped letters (remarked (mark_of K) (node T r))) (text : letters ≡ lettersAt K c) where
+  module _ (is_y : y ≡ stepped letters (remarked (mark_of K) (node T r))) (text : letters ≡ letters_at K c) where
     -- the tables stand for the store after it
     pub takes_before : Reads T' ps input S'
     takes_before = record {
@@ -114,7 +114,7 @@ module _ (T : Sheets) (ps : List Path) (input : List ℕ) (S : Store) (h : Reads
       place = h.place;
       within = h.within;
       columns = h.columns;
-      few = omega (arith, h.few, total_mono (λ q. columnsRead (S.nodes q)) (λ q. columnsRead (S'.nodes q)) weighs ps);
+      few = omega (arith, h.few, total_mono (λ q. columns_read (S.nodes q)) (λ q. columns_read (S'.nodes q)) weighs ps);
       made = h.made;
       making = h.making;
       fathers = fathers;
@@ -131,8 +131,8 @@ module _ (T : Sheets) (ps : List Path) (input : List ℕ) (S : Store) (h : Reads
             (λ ne. subst (Fathers s) (sym (put_other p q (ready K cs) S.nodes ne)) (h.fathers k q s hk))
             (put_cases p q)
 
-        homes : (q : Path) → isReady (S'.nodes q) ≡ true → (k : ℕ) × Home ps k q
-        homes q e = ⊎_elim (λ is. (r, subst (Home ps r) (sym is) home)) (λ ne. h.homes q (ap isReady (sym (put_other p q (ready K cs) S.nodes ne)) ∙ e)) (put_cases p q)
+        homes : (q : Path) → is_ready (S'.nodes q) ≡ true → (k : ℕ) × Home ps k q
+        homes q e = ⊎_elim (λ is. (r, subst (Home ps r) (sym is) home)) (λ ne. h.homes q (ap is_ready (sym (put_other p q (ready K cs) S.nodes ne)) ∙ e)) (put_cases p q)
 
         x : Row
         x = node T r
@@ -142,7 +142,7 @@ module _ (T : Sheets) (ps : List Path) (input : List ℕ) (S : Store) (h : Reads
 
         own : Kept T' ps S' p y (ready K cs)
         own =
-            let start = S.texts p + letterCount c in
+            let start = S.texts p + letter_count c in
             let z = stepped letters x in
             let vals = kin_values T (S.texts p) x (c ∷ cs) H K is_kin old.2 in
             let v = values_step T (S.texts p) letters x K c cs text vals in

@@ -14,7 +14,7 @@ use Rattle.de.specs.declared.desk.Desk.{Desk}
 use Rattle.de.specs.declared.heard.Heard.{Heard}
 use Rattle.de.specs.Moves.{sheets}
 use Rattle.de.specs.Served.{Spared, SameLengths}
-use Rattle.de.specs.Steps.{plan, isDeep, Took}
+use Rattle.de.specs.Steps.{plan, is_deep, Took}
 use Rattle.de.specs.Standing.{Stands, Told}
 use Rattle.de.proofs.Keeping.{reads_spared}
 use Rattle.de.proofs.Sizes.{lengths_same, lengths_trans, lengths_spared, lengths-prop}
@@ -77,7 +77,7 @@ told-answered input R old taken more new (reply c place R') x S (y, is, m') ms m
 
 -- a reader that stands for some reading has room for the place that a step opens
 pub kept-room : (col : Meaning) (input : List ℕ) (old new : Desk) (q : Question) (x : Heard) → 0 < old.places.depth → ∥ ((R : Reading) × Stands old input R) ∥₁
-    → Took col input q (isDeep old) old new (Ok x) (plan (top old.places) q) → length (opening x.opened (stack new.places)) ≤ 32
+    → Took col input q (is_deep old) old new (Ok x) (plan (top old.places) q) → length (opening x.opened (stack new.places)) ≤ 32
 kept-room col input old new q x some s took =
     ∥∥₁_elim s le_prop (λ (R, S). opened-room input old new (answer col R.store R.places q) x (stepped col input old new R S some q (Ok x) took))
 

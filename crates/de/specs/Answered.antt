@@ -36,14 +36,14 @@ Within input (val (tuple n)) place = Unit {0}
 Within input end place = Unit {0}
 
 -- the question that asks a node for a value
-abbrev pub questionOf : Ask → Question
-questionOf (scalar? k) = questions.Scalar k
-questionOf text? = questions.Text
-questionOf option? = questions.Option
-questionOf variant? = questions.Variant
-questionOf (seq? flag) = questions.Seq flag
-questionOf (map? flag) = questions.Map flag
-questionOf (tuple? n) = questions.Tuple n
+abbrev pub question_of : Ask → Question
+question_of (scalar? k) = questions.Scalar k
+question_of text? = questions.Text
+question_of option? = questions.Option
+question_of variant? = questions.Variant
+question_of (seq? flag) = questions.Seq flag
+question_of (map? flag) = questions.Map flag
+question_of (tuple? n) = questions.Tuple n
 
 -- what a cell is worth to a question, and so the answer
 abbrev pub Worthy : Worth → ℕ → Result Answer Refusal → Type 0

@@ -6,7 +6,7 @@ use Rattle.document.specs.declared.questions.Answer.TheVariants as answers
 use Rattle.document.specs.declared.questions.Question.{Question}
 use Rattle.document.specs.declared.questions.Question.TheVariants as questions
 use Rattle.document.specs.Calls.{width, Cell, num}
-use Rattle.document.specs.Reader.{Ask, scalar?, text?, option?, variant?, seq?, map?, tuple?, letterCount}
+use Rattle.document.specs.Reader.{Ask, scalar?, text?, option?, variant?, seq?, map?, tuple?, letter_count}
 use Rattle.nodes.specs.declared.marks.Mark.{Mark}
 use Rattle.nodes.specs.declared.marks.Mark.TheVariants as marks
 
@@ -23,50 +23,50 @@ marking (questions.Tuple n) = marks.Tuple n
 marking questions.End = marks.Unmarked
 
 -- whether a question opens a place whatever the answer
-abbrev pub opensAny : Question → Bool
-opensAny (questions.Scalar k) = false
-opensAny questions.Text = false
-opensAny questions.Unit = false
-opensAny questions.Option = false
-opensAny questions.Variant = true
-opensAny (questions.Seq flag) = true
-opensAny (questions.Map flag) = true
-opensAny (questions.Tuple n) = true
-opensAny questions.End = false
+abbrev pub opens_any : Question → Bool
+opens_any (questions.Scalar k) = false
+opens_any questions.Text = false
+opens_any questions.Unit = false
+opens_any questions.Option = false
+opens_any questions.Variant = true
+opens_any (questions.Seq flag) = true
+opens_any (questions.Map flag) = true
+opens_any (questions.Tuple n) = true
+opens_any questions.End = false
 
 -- whether a question is `tuple 1`, which asks nothing of its node
-abbrev pub isLone : Question → Bool
-isLone (questions.Scalar k) = false
-isLone questions.Text = false
-isLone questions.Unit = false
-isLone questions.Option = false
-isLone questions.Variant = false
-isLone (questions.Seq flag) = false
-isLone (questions.Map flag) = false
-isLone (questions.Tuple n) = n == 1
-isLone questions.End = false
+abbrev pub is_lone : Question → Bool
+is_lone (questions.Scalar k) = false
+is_lone questions.Text = false
+is_lone questions.Unit = false
+is_lone questions.Option = false
+is_lone questions.Variant = false
+is_lone (questions.Seq flag) = false
+is_lone (questions.Map flag) = false
+is_lone (questions.Tuple n) = n == 1
+is_lone questions.End = false
 
 -- whether an answer opens a place
-abbrev pub opensPlace : Answer → Bool
-opensPlace (answers.Bool b) = false
-opensPlace (answers.U8 n) = false
-opensPlace (answers.U16 n) = false
-opensPlace (answers.U32 n) = false
-opensPlace (answers.U64 n) = false
-opensPlace (answers.I8 z) = false
-opensPlace (answers.I16 z) = false
-opensPlace (answers.I32 z) = false
-opensPlace (answers.I64 z) = false
-opensPlace (answers.F32 n) = false
-opensPlace (answers.Text place length) = false
-opensPlace answers.Unit = false
-opensPlace answers.None = false
-opensPlace answers.Some = true
-opensPlace (answers.Variant i) = true
-opensPlace (answers.Seq n) = true
-opensPlace (answers.Map n) = true
-opensPlace answers.Tuple = true
-opensPlace answers.End = false
+abbrev pub opens_place : Answer → Bool
+opens_place (answers.Bool b) = false
+opens_place (answers.U8 n) = false
+opens_place (answers.U16 n) = false
+opens_place (answers.U32 n) = false
+opens_place (answers.U64 n) = false
+opens_place (answers.I8 z) = false
+opens_place (answers.I16 z) = false
+opens_place (answers.I32 z) = false
+opens_place (answers.I64 z) = false
+opens_place (answers.F32 n) = false
+opens_place (answers.Text place length) = false
+opens_place answers.Unit = false
+opens_place answers.None = false
+opens_place answers.Some = true
+opens_place (answers.Variant i) = true
+opens_place (answers.Seq n) = true
+opens_place (answers.Map n) = true
+opens_place answers.Tuple = true
+opens_place answers.End = false
 
 -- the index whose child the value that follows stands at
 abbrev pub branching : Answer → Option ℕ
@@ -91,26 +91,26 @@ branching answers.Tuple = options.None
 branching answers.End = options.None
 
 -- the number of bytes of a text
-abbrev pub lettersOf : Answer → ℕ
-lettersOf (answers.Bool b) = 0
-lettersOf (answers.U8 n) = 0
-lettersOf (answers.U16 n) = 0
-lettersOf (answers.U32 n) = 0
-lettersOf (answers.U64 n) = 0
-lettersOf (answers.I8 z) = 0
-lettersOf (answers.I16 z) = 0
-lettersOf (answers.I32 z) = 0
-lettersOf (answers.I64 z) = 0
-lettersOf (answers.F32 n) = 0
-lettersOf (answers.Text place length) = length
-lettersOf answers.Unit = 0
-lettersOf answers.None = 0
-lettersOf answers.Some = 0
-lettersOf (answers.Variant i) = 0
-lettersOf (answers.Seq n) = 0
-lettersOf (answers.Map n) = 0
-lettersOf answers.Tuple = 0
-lettersOf answers.End = 0
+abbrev pub letters_of : Answer → ℕ
+letters_of (answers.Bool b) = 0
+letters_of (answers.U8 n) = 0
+letters_of (answers.U16 n) = 0
+letters_of (answers.U32 n) = 0
+letters_of (answers.U64 n) = 0
+letters_of (answers.I8 z) = 0
+letters_of (answers.I16 z) = 0
+letters_of (answers.I32 z) = 0
+letters_of (answers.I64 z) = 0
+letters_of (answers.F32 n) = 0
+letters_of (answers.Text place length) = length
+letters_of answers.Unit = 0
+letters_of answers.None = 0
+letters_of answers.Some = 0
+letters_of (answers.Variant i) = 0
+letters_of (answers.Seq n) = 0
+letters_of (answers.Map n) = 0
+letters_of answers.Tuple = 0
+letters_of answers.End = 0
 
 -- a number fits what the question makes of it
 abbrev pub Fitting : Question → ℕ → Type 0
@@ -127,7 +127,7 @@ Fitting questions.End n = Unit {0}
 -- the number of a cell as the slots have it: of a text the number of its bytes
 abbrev pub Sized : Ask → Cell → ℕ → Type 0
 Sized (scalar? k) c n = num c ≡ n
-Sized text? c n = letterCount c ≡ n
+Sized text? c n = letter_count c ≡ n
 Sized option? c n = num c ≡ n
 Sized variant? c n = num c ≡ n
 Sized (seq? flag) c n = num c ≡ n

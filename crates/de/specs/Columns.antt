@@ -3,17 +3,17 @@ use Rattle.std.specs.Prelude.{◌≡◌, ℕ, ◌+◌, ◌-◌, ◌<◌, ◌≤�
 use Rattle.std.specs.List.{AllByRecursion}
 use Rattle.column.specs.declared.fault.Fault.{Fault}
 use Rattle.document.specs.declared.refusals.Refusal.{Refusal}
-use Rattle.document.specs.Refusals.{ofFault}
+use Rattle.document.specs.Refusals.{of_fault}
 use Rattle.document.specs.Calls.{total, Kind, SCALAR, TEXT, SEQ, MAP, ENUM, UNIT, TUPLE, Cell, num, str}
 use Rattle.document.specs.Columns.{sum}
-use Rattle.document.specs.Fetch.{Supply, supply, Fetched, fetched, columnsOf}
+use Rattle.document.specs.Fetch.{Supply, supply, Fetched, fetched, columns_of}
 use Rattle.de.specs.declared.columns.Spot.{Spot}
 use Rattle.de.specs.declared.columns.Gain.{Gain}
 
 -- a column's answer, with the column's number in its refusal
 abbrev pub numbered : ℕ → Result ℕ Fault → Result ℕ Refusal
 numbered column (Ok n) = Ok n
-numbered column (Err f) = Err (ofFault f column)
+numbered column (Err f) = Err (of_fault f column)
 
 -- ---- how far reading came
 
@@ -66,19 +66,19 @@ pub record TextsStored (n : ℕ) (slots : List ℕ) (spot : Spot) (gain : Gain) 
   pub place : spot.place + gain.sum ≤ gain.spot.place
 
 -- the sum of a node's lengths, 0 where its values have none
-abbrev pub lengthsOf : Kind → List Cell → ℕ
-lengthsOf (SCALAR k) cs = 0
-lengthsOf TEXT cs = total num cs
-lengthsOf SEQ cs = total num cs
-lengthsOf MAP cs = total num cs
-lengthsOf ENUM cs = 0
-lengthsOf UNIT cs = 0
-lengthsOf (TUPLE n) cs = 0
+abbrev pub lengths_of : Kind → List Cell → ℕ
+lengths_of (SCALAR k) cs = 0
+lengths_of TEXT cs = total num cs
+lengths_of SEQ cs = total num cs
+lengths_of MAP cs = total num cs
+lengths_of ENUM cs = 0
+lengths_of UNIT cs = 0
+lengths_of (TUPLE n) cs = 0
 
 -- a node's n cells: the numbers of a kind with columns, and the sum of lengths; a text's number is its length, and so many bytes were read at least
 pub record CellsStored (K : Kind) (n : ℕ) (slots : List ℕ) (spot : Spot) (gain : Gain) (cs : List Cell) : Type 0 where
   pub count : length cs ≡ n
-  pub stored : 0 < columnsOf K → Stored n slots spot gain.spot (each num cs)
-  pub sum-is : gain.sum ≡ lengthsOf K cs
+  pub stored : 0 < columns_of K → Stored n slots spot gain.spot (each num cs)
+  pub sum-is : gain.sum ≡ lengths_of K cs
   pub letters : K ≡ TEXT → AllByRecursion (λ c. num c ≡ length (str c)) cs
   pub place : K ≡ TEXT → spot.place + gain.sum ≤ gain.spot.place

@@ -4,7 +4,7 @@ use Rattle.std.specs.declared.option.Option.TheVariants as options
 use Rattle.chain.specs.declared.Chain.{Chain}
 use Rattle.chain.specs.Chains.{adjust, appended, longer, course}
 use Rattle.nodes.specs.declared.marks.Mark.TheVariants as marks
-use Rattle.nodes.specs.Marks.{markNumber}
+use Rattle.nodes.specs.Marks.{mark_number}
 use Rattle.nodes.specs.Children.{seek}
 use Rattle.de.specs.declared.records.Node.{Node}
 use Rattle.de.specs.declared.store.Tables.{Tables}
@@ -12,24 +12,24 @@ use Rattle.de.specs.declared.store.Tables.{Tables}
 -- ---- records
 
 -- a chain of no record
-abbrev pub noChain : Chain
-noChain = record { first = 0; last = 0 }
+abbrev pub no_chain : Chain
+no_chain = record { first = 0; last = 0 }
 
 -- the record of a node with so many values whose columns are not read yet
 abbrev pub unread : ℕ → ℕ → Node
-unread i n = record { mark = marks.Unmarked; count = n; done = 0; first = 0; text = 0; index = i; next = 0; children = noChain }
+unread i n = record { mark = marks.Unmarked; count = n; done = 0; first = 0; text = 0; index = i; next = 0; children = no_chain }
 
 -- the root has one value
-abbrev pub rootNode : Node
-rootNode = unread 0 1
+abbrev pub root_node : Node
+root_node = unread 0 1
 
 -- a record with another next one
-abbrev pub withNext : Node → ℕ → Node
-withNext x k = record { mark = x.mark; count = x.count; done = x.done; first = x.first; text = x.text; index = x.index; next = k; children = x.children }
+abbrev pub with_next : Node → ℕ → Node
+with_next x k = record { mark = x.mark; count = x.count; done = x.done; first = x.first; text = x.text; index = x.index; next = k; children = x.children }
 
 -- .. and with another chain of children
-abbrev pub withChildren : Chain → Node → Node
-withChildren c x = record { mark = x.mark; count = x.count; done = x.done; first = x.first; text = x.text; index = x.index; next = x.next; children = c }
+abbrev pub with_children : Chain → Node → Node
+with_children c x = record { mark = x.mark; count = x.count; done = x.done; first = x.first; text = x.text; index = x.index; next = x.next; children = c }
 
 -- ---- the tables
 
@@ -48,26 +48,26 @@ sheets t = record { nodes = vec_items t.nodes; slots = vec_items t.slots; used =
 
 -- a node's record; past the table's end what a new reader has for the root
 abbrev pub node : Sheets → ℕ → Node
-node T r = slice_index_or T.nodes r rootNode
+node T r = slice_index_or T.nodes r root_node
 
 -- no column of the node was read yet
-abbrev pub isFresh : Node → Bool
-isFresh x = markNumber x.mark == 0
+abbrev pub is_fresh : Node → Bool
+is_fresh x = mark_number x.mark == 0
 
 -- too few node records
-abbrev pub lacksNodes : Sheets → ℕ → Bool
-lacksNodes T more = nat_lt (min (length T.nodes) 65536) (T.used + more)
+abbrev pub lacks_nodes : Sheets → ℕ → Bool
+lacks_nodes T more = nat_lt (min (length T.nodes) 65536) (T.used + more)
 
 -- .. for the child of a new index; k is its child as it was found
-abbrev pub lacksChild : Sheets → ℕ → Option ℕ → Bool
-lacksChild T k options.None = false
-lacksChild T k (options.Some i) = cond (k == 0) (lacksNodes T 1) false
+abbrev pub lacks_child : Sheets → ℕ → Option ℕ → Bool
+lacks_child T k options.None = false
+lacks_child T k (options.Some i) = cond (k == 0) (lacks_nodes T 1) false
 
 -- a new record of a node with n values, as the last child of r
 abbrev pub spawned : ℕ → ℕ → ℕ → Sheets → Sheets
 spawned r i n T =
     record {
-      nodes = adjust (withChildren (longer (node T r).children T.used)) r (appended withNext T.nodes (node T r).children.last T.used (unread i n));
+      nodes = adjust (with_children (longer (node T r).children T.used)) r (appended with_next T.nodes (node T r).children.last T.used (unread i n));
       slots = T.slots;
       used = T.used + 1;
       taken = T.taken;
@@ -89,10 +89,10 @@ abbrev pub advanced : ℕ → ℕ → ℕ → Sheets → Sheets
 advanced taken place more T = record { nodes = T.nodes; slots = T.slots; used = T.used; taken = taken; place = place; columns = T.columns + more }
 
 -- the child of r with the index, 0 where it has none
-abbrev pub childOf : Sheets → Node → ℕ → ℕ
-childOf T x i = seek (each (λ n. n.index) T.nodes) i (course (each (λ n. n.next) T.nodes) x.children.first)
+abbrev pub child_of : Sheets → Node → ℕ → ℕ
+child_of T x i = seek (each (λ n. n.index) T.nodes) i (course (each (λ n. n.next) T.nodes) x.children.first)
 
 -- the child of an index that an answer has
-abbrev pub branchIn : Sheets → Node → Option ℕ → ℕ
-branchIn T x options.None = 0
-branchIn T x (options.Some i) = childOf T x i
+abbrev pub branch_in : Sheets → Node → Option ℕ → ℕ
+branch_in T x options.None = 0
+branch_in T x (options.Some i) = child_of T x i

@@ -7,14 +7,14 @@ use Rattle.document.specs.declared.questions.Question.{Question}
 use Rattle.document.specs.declared.questions.Question.TheVariants as questions
 use Rattle.document.specs.Calls.{unit, val}
 use Rattle.document.specs.Nodes.{Path}
-use Rattle.document.specs.Places.{Place, settle, tooMany}
+use Rattle.document.specs.Places.{Place, settle, too_many}
 use Rattle.document.specs.Reader.{Ask, Store, reading, scalar?, text?, option?, variant?, seq?, map?, Reply, reply, refuse, consult, opening, rooted, tupled}
 use Rattle.nodes.specs.Homes.{Home}
 use Rattle.nodes.specs.Placed.{Opens}
 use Rattle.de.specs.declared.heard.Heard.{Heard}
 use Rattle.de.specs.Moves.{Sheets}
 use Rattle.de.specs.Reads.{Reads}
-use Rattle.de.specs.Answered.{Answers, Within, questionOf}
+use Rattle.de.specs.Answered.{Answers, Within, question_of}
 
 -- a question at the node p, with the places gs open once the value is counted; an `end` is none, and is not asked there
 abbrev pub served : Meaning → Store → Path → List Place → Question → Reply
@@ -64,11 +64,11 @@ Readable input T r = ∥ ((ps : List Path) × (S : Store) × (p : Path) × Reads
 -- A question that asks a value of the node at the record r, in a reader over this input with a record for the root.
 unfoldable pub Consulted : Meaning → List ℕ → ℕ → Question → Bool → Sheets → Sheets → Result Heard Refusal → Type 0
 Consulted col input r q deep T T' res =
-    (ps : List Path) (S : Store) (p : Path) (gs : List Place) (a : Ask) → Reads T ps input S → Home ps r p → q ≡ questionOf a → length gs ≤ 33 → deep ≡ tooMany (suc (length gs))
+    (ps : List Path) (S : Store) (p : Path) (gs : List Place) (a : Ask) → Reads T ps input S → Home ps r p → q ≡ question_of a → length gs ≤ 33 → deep ≡ too_many (suc (length gs))
     → Replied ps input gs T T' (consult col S p gs a) res
 
 -- The question at the record r, in a reader over this input: whatever the tables stand for, what is answered there is what the definitions answer.
 unfoldable pub Responded : Meaning → List ℕ → ℕ → Question → Bool → Sheets → Sheets → Result Heard Refusal → Type 0
 Responded col input r q deep T T' res =
-    (ps : List Path) (S : Store) (p : Path) (gs : List Place) → Reads T ps input S → Home ps r p → length gs ≤ 33 → deep ≡ tooMany (suc (length gs))
+    (ps : List Path) (S : Store) (p : Path) (gs : List Place) → Reads T ps input S → Home ps r p → length gs ≤ 33 → deep ≡ too_many (suc (length gs))
     → Replied ps input gs T T' (served col S p gs q) res

@@ -9,7 +9,7 @@ use Rattle.document.specs.declared.questions.Question.{Question}
 use Rattle.document.specs.declared.questions.Question.TheVariants as questions
 use Rattle.nodes.specs.declared.places.State.{State}
 use Rattle.nodes.specs.declared.places.State.TheVariants.{Root, Closing}
-use Rattle.nodes.specs.Ahead.{Ahead, nowhere, there, ahead, isFull}
+use Rattle.nodes.specs.Ahead.{Ahead, nowhere, there, ahead, is_full}
 use Rattle.nodes.specs.Stack.{top, turned, replaced}
 use Rattle.de.specs.declared.desk.Desk.{Desk}
 use Rattle.de.specs.declared.heard.Heard.{Heard}
@@ -23,26 +23,26 @@ pub data Plan : Type 0 where
   asks : ℕ → State → Plan
 
 -- a question where the next value stands: none is to come, or a record is asked for it
-abbrev pub onAhead : Ahead → Plan
-onAhead nowhere = declines refusals.Count
-onAhead (there r s) = asks r s
+abbrev pub on_ahead : Ahead → Plan
+on_ahead nowhere = declines refusals.Count
+on_ahead (there r s) = asks r s
 
 -- a question that asks for a value, in each state
-abbrev pub onQuestion : State → Plan
-onQuestion Root = begins
-onQuestion s = onAhead (ahead s)
+abbrev pub on_question : State → Plan
+on_question Root = begins
+on_question s = on_ahead (ahead s)
 
 -- a question in each state
 abbrev pub plan : State → Question → Plan
-plan s (questions.Scalar k) = onQuestion s
-plan s questions.Text = onQuestion s
-plan s questions.Unit = onQuestion s
-plan s questions.Option = onQuestion s
-plan s questions.Variant = onQuestion s
-plan s (questions.Seq flag) = onQuestion s
-plan s (questions.Map flag) = onQuestion s
-plan s (questions.Tuple n) = onQuestion s
-plan s questions.End = cond (isFull s) closes (declines refusals.Count)
+plan s (questions.Scalar k) = on_question s
+plan s questions.Text = on_question s
+plan s questions.Unit = on_question s
+plan s questions.Option = on_question s
+plan s questions.Variant = on_question s
+plan s (questions.Seq flag) = on_question s
+plan s (questions.Map flag) = on_question s
+plan s (questions.Tuple n) = on_question s
+plan s questions.End = cond (is_full s) closes (declines refusals.Count)
 
 -- the record that is asked is a node's
 abbrev pub Aims : List ℕ → Sheets → Plan → Type 0
@@ -52,8 +52,8 @@ Aims input T begins = Readable input T 1
 Aims input T (asks r s) = Readable input T r
 
 -- no further place can be opened
-abbrev pub isDeep : Desk → Bool
-isDeep d = d.places.depth == 32
+abbrev pub is_deep : Desk → Bool
+is_deep d = d.places.depth == 32
 
 -- an answer with no place to be opened
 abbrev pub shut : Result Heard Refusal → Result Heard Refusal

@@ -11,52 +11,52 @@ use Rattle.nodes.specs.declared.marks.Mark.{Mark}
 use Rattle.nodes.specs.declared.marks.Mark.TheVariants as marks
 use Rattle.nodes.specs.declared.places.State.{State}
 use Rattle.nodes.specs.declared.places.State.TheVariants.{Items, Keys, Fields, Lone, One}
-use Rattle.nodes.specs.Marks.{familyOf}
+use Rattle.nodes.specs.Marks.{family_of}
 use Rattle.de.specs.declared.records.Node.{Node}
 use Rattle.de.specs.declared.view.View.{View}
 use Rattle.de.specs.Moves.{Sheets, node, spawned, grown, replaced, advanced}
-use Rattle.de.specs.Reads.{allOf}
+use Rattle.de.specs.Reads.{all_of}
 
 -- the number of columns of a node with this mark
-abbrev pub columnsWith : Mark → ℕ
-columnsWith marks.Unmarked = 0
-columnsWith (marks.Scalar k) = 1
-columnsWith marks.Text = 3
-columnsWith marks.Seq = 2
-columnsWith marks.Map = 2
-columnsWith marks.Enum = 1
-columnsWith marks.Unit = 0
-columnsWith (marks.Tuple n) = 0
+abbrev pub columns_with : Mark → ℕ
+columns_with marks.Unmarked = 0
+columns_with (marks.Scalar k) = 1
+columns_with marks.Text = 3
+columns_with marks.Seq = 2
+columns_with marks.Map = 2
+columns_with marks.Enum = 1
+columns_with marks.Unit = 0
+columns_with (marks.Tuple n) = 0
 
 -- how many values each child has that comes with the mark: a field as many as its tuple, elements, keys and map values the sum of the lengths
-abbrev pub childrenWith : Mark → ℕ → ℕ → ℕ
-childrenWith marks.Unmarked count sum = sum
-childrenWith (marks.Scalar k) count sum = sum
-childrenWith marks.Text count sum = sum
-childrenWith marks.Seq count sum = sum
-childrenWith marks.Map count sum = sum
-childrenWith marks.Enum count sum = sum
-childrenWith marks.Unit count sum = sum
-childrenWith (marks.Tuple n) count sum = count
+abbrev pub children_with : Mark → ℕ → ℕ → ℕ
+children_with marks.Unmarked count sum = sum
+children_with (marks.Scalar k) count sum = sum
+children_with marks.Text count sum = sum
+children_with marks.Seq count sum = sum
+children_with marks.Map count sum = sum
+children_with marks.Enum count sum = sum
+children_with marks.Unit count sum = sum
+children_with (marks.Tuple n) count sum = count
 
 -- .. at a node as it was found
-abbrev pub childCount : View → ℕ
-childCount v = childrenWith v.node.mark v.node.count v.gain.sum
+abbrev pub child_count : View → ℕ
+child_count v = children_with v.node.mark v.node.count v.gain.sum
 
 -- one value of the node is answered, with so many text bytes
 abbrev pub stepped : ℕ → Node → Node
 stepped letters x = record { mark = x.mark; count = x.count; done = x.done + 1; first = x.first; text = x.text + letters; index = x.index; next = x.next; children = x.children }
 
 -- the tables once an answer of the node is taken
-abbrev pub takenIn : ℕ → View → ℕ → Sheets → Sheets
-takenIn r v letters T =
+abbrev pub taken_in : ℕ → View → ℕ → Sheets → Sheets
+taken_in r v letters T =
     cond v.fresh
-    (grown r (familyOf v.node.mark) (childCount v) (advanced v.gain.spot.taken v.gain.spot.place (columnsWith v.node.mark) (replaced r (stepped letters v.node) T)))
+    (grown r (family_of v.node.mark) (child_count v) (advanced v.gain.spot.taken v.gain.spot.place (columns_with v.node.mark) (replaced r (stepped letters v.node) T)))
     (replaced r (stepped letters v.node) T)
 
 -- how many of a node's values are this index
 abbrev pub occurrences : Sheets → Node → ℕ → ℕ
-occurrences T x i = total (demand ENUM (alt i)) (allOf T x)
+occurrences T x i = total (demand ENUM (alt i)) (all_of T x)
 
 -- a new index gets a record; k is its child as it was found
 abbrev pub branched : ℕ → ℕ → Option ℕ → Sheets → Sheets
@@ -64,39 +64,39 @@ branched r k options.None T = T
 branched r k (options.Some i) T = cond (k == 0) (spawned r i (occurrences T (node T r) i) T) T
 
 -- the record of the child then
-abbrev pub branchThen : ℕ → Option ℕ → Sheets → ℕ
-branchThen k options.None T = k
-branchThen k (options.Some i) T = cond (k == 0) T.used k
+abbrev pub branch_then : ℕ → Option ℕ → Sheets → ℕ
+branch_then k options.None T = k
+branch_then k (options.Some i) T = cond (k == 0) T.used k
 
 -- the place that an answer at r opens; k is the record of its index's child
-abbrev pub openedAt : Sheets → ℕ → ℕ → Question → Answer → Option State
-openedAt T r k q (answers.Bool b) = options.None
-openedAt T r k q (answers.U8 n) = options.None
-openedAt T r k q (answers.U16 n) = options.None
-openedAt T r k q (answers.U32 n) = options.None
-openedAt T r k q (answers.U64 n) = options.None
-openedAt T r k q (answers.I8 z) = options.None
-openedAt T r k q (answers.I16 z) = options.None
-openedAt T r k q (answers.I32 z) = options.None
-openedAt T r k q (answers.I64 z) = options.None
-openedAt T r k q (answers.F32 n) = options.None
-openedAt T r k q (answers.Text place length) = options.None
-openedAt T r k q answers.Unit = options.None
-openedAt T r k q answers.None = options.None
-openedAt T r k q answers.Some = options.Some (One k)
-openedAt T r k q (answers.Variant i) = options.Some (One k)
-openedAt T r k q (answers.Seq n) = options.Some (Items (node T r).children.first n)
-openedAt T r k q (answers.Map n) = options.Some (Keys (node T r).children.first n)
-openedAt T r k (questions.Scalar j) answers.Tuple = options.None
-openedAt T r k questions.Text answers.Tuple = options.None
-openedAt T r k questions.Unit answers.Tuple = options.None
-openedAt T r k questions.Option answers.Tuple = options.None
-openedAt T r k questions.Variant answers.Tuple = options.None
-openedAt T r k (questions.Seq flag) answers.Tuple = options.None
-openedAt T r k (questions.Map flag) answers.Tuple = options.None
-openedAt T r k (questions.Tuple n) answers.Tuple = options.Some (cond (n == 1) (Lone r 1) (Fields (node T r).children.first n))
-openedAt T r k questions.End answers.Tuple = options.None
-openedAt T r k q answers.End = options.None
+abbrev pub opened_at : Sheets → ℕ → ℕ → Question → Answer → Option State
+opened_at T r k q (answers.Bool b) = options.None
+opened_at T r k q (answers.U8 n) = options.None
+opened_at T r k q (answers.U16 n) = options.None
+opened_at T r k q (answers.U32 n) = options.None
+opened_at T r k q (answers.U64 n) = options.None
+opened_at T r k q (answers.I8 z) = options.None
+opened_at T r k q (answers.I16 z) = options.None
+opened_at T r k q (answers.I32 z) = options.None
+opened_at T r k q (answers.I64 z) = options.None
+opened_at T r k q (answers.F32 n) = options.None
+opened_at T r k q (answers.Text place length) = options.None
+opened_at T r k q answers.Unit = options.None
+opened_at T r k q answers.None = options.None
+opened_at T r k q answers.Some = options.Some (One k)
+opened_at T r k q (answers.Variant i) = options.Some (One k)
+opened_at T r k q (answers.Seq n) = options.Some (Items (node T r).children.first n)
+opened_at T r k q (answers.Map n) = options.Some (Keys (node T r).children.first n)
+opened_at T r k (questions.Scalar j) answers.Tuple = options.None
+opened_at T r k questions.Text answers.Tuple = options.None
+opened_at T r k questions.Unit answers.Tuple = options.None
+opened_at T r k questions.Option answers.Tuple = options.None
+opened_at T r k questions.Variant answers.Tuple = options.None
+opened_at T r k (questions.Seq flag) answers.Tuple = options.None
+opened_at T r k (questions.Map flag) answers.Tuple = options.None
+opened_at T r k (questions.Tuple n) answers.Tuple = options.Some (cond (n == 1) (Lone r 1) (Fields (node T r).children.first n))
+opened_at T r k questions.End answers.Tuple = options.None
+opened_at T r k q answers.End = options.None
 
 -- ---- what the moves ask of the tables: bounds alone
 
@@ -125,7 +125,7 @@ pub record TakeSafe (T : Sheets) (r : ℕ) (v : View) (letters : ℕ) : Type 0 w
   pub left : v.node.done < v.node.count
   pub text : 0 < letters → v.node.text + letters < 2 ^ 64
   pub columns : T.columns + 3 < 2 ^ 32
-  pub room : v.fresh ≡ true → T.used + familyOf v.node.mark ≤ length T.nodes
+  pub room : v.fresh ≡ true → T.used + family_of v.node.mark ≤ length T.nodes
   pub tail : v.node.children.last < T.used
 
 -- .. for the child of an index; k is its record as it was found

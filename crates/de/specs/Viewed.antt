@@ -7,17 +7,17 @@ use Rattle.document.specs.Calls.{Kind, Cell}
 use Rattle.document.specs.Fetch.{Supply, Fetched, fetched, denied, fetch}
 use Rattle.document.specs.Reader.{kin}
 use Rattle.nodes.specs.declared.marks.Mark.{Mark}
-use Rattle.nodes.specs.Marks.{mark_of, familyOf}
+use Rattle.nodes.specs.Marks.{mark_of, family_of}
 use Rattle.de.specs.declared.records.Node.{Node}
 use Rattle.de.specs.declared.columns.Spot.{Spot}
 use Rattle.de.specs.declared.columns.Gain.{Gain}
 use Rattle.de.specs.declared.view.View.{View}
 use Rattle.de.specs.Columns.{usable, Within, left_at, CellsStored}
-use Rattle.de.specs.Moves.{Sheets, node, isFresh, lacksNodes}
+use Rattle.de.specs.Moves.{Sheets, node, is_fresh, lacks_nodes}
 
 -- how far the tables are used
-abbrev pub spotOf : Sheets → Spot
-spotOf T = record { taken = T.taken; place = T.place }
+abbrev pub spot_of : Sheets → Spot
+spot_of T = record { taken = T.taken; place = T.place }
 
 -- what looking at r asks of the tables: bounds alone
 pub record LookSafe (input : List ℕ) (T : Sheets) (r : ℕ) : Type 0 where
@@ -37,7 +37,7 @@ known T m x =
     record {
       node = remarked m x;
       fresh = false;
-      gain = record { spot = spotOf T; sum = 0 };
+      gain = record { spot = spot_of T; sum = 0 };
     }
 
 -- a node that was read just now: its values stand from the first free slot on, its texts at the end of what was read
@@ -57,7 +57,7 @@ pub record Finds (input : List ℕ) (T : Sheets) (slots : List ℕ) (K : Kind) (
   pub within : Within (usable (length T.slots)) input gain.spot
   pub taken : T.taken ≤ gain.spot.taken
   pub place : T.place ≤ gain.spot.place
-  pub stored : CellsStored K x.count slots (spotOf T) gain cs
+  pub stored : CellsStored K x.count slots (spot_of T) gain cs
 
 -- the code answers as the definition does: with its refusal, or with something that tells what was read
 abbrev pub Answers : {X R : Type 0} → (X → Supply → R → Type 0) → Fetched X → Result R Refusal → Type 0
@@ -69,9 +69,9 @@ Answers Tells (denied d) (Err e) = e ≡ d
 -- looking at a record: whether it was read before, and whether records lack for what its kind brings
 abbrev pub LooksAs : Meaning → List ℕ → Sheets → List ℕ → Kind → Node → Bool → Bool → Result View Refusal → Type 0
 LooksAs col input T slots K x true true res = res ≡ Err refusals.Nodes
-LooksAs col input T slots K x true false res = Answers (Finds input T slots K x) (fetch col T.columns K x.count (left_at (usable (length T.slots)) input (spotOf T))) res
+LooksAs col input T slots K x true false res = Answers (Finds input T slots K x) (fetch col T.columns K x.count (left_at (usable (length T.slots)) input (spot_of T))) res
 LooksAs col input T slots K x false b res = (J : Kind) → x.mark ≡ mark_of J → res ≡ cond (kin J K) (Ok (known T (mark_of K) x)) (Err refusals.Kind)
 
 -- looking at the record r as a node of this kind, with these slots afterwards
 abbrev pub Looks : Meaning → List ℕ → Sheets → List ℕ → ℕ → Kind → Result View Refusal → Type 0
-Looks col input T slots r K res = LooksAs col input T slots K (node T r) (isFresh (node T r)) (lacksNodes T (familyOf (mark_of K))) res
+Looks col input T slots r K res = LooksAs col input T slots K (node T r) (is_fresh (node T r)) (lacks_nodes T (family_of (mark_of K))) res

@@ -3,7 +3,7 @@
 ghost use Rattle.std.specs.Prelude.{◌≡◌, ◌+◌, ◌-◌, ◌^◌, ◌<◌, ◌≤◌, min, length, take, drop, MatchResult};
 ghost use Rattle.document.specs.Calls.{Kind};
 ghost use Rattle.document.specs.Columns.{sum};
-ghost use Rattle.document.specs.Fetch.{denied, numbers, beyond, merged, lengths, cut, allPass, texts, fetch};
+ghost use Rattle.document.specs.Fetch.{denied, numbers, beyond, merged, lengths, cut, all_pass, texts, fetch};
 ghost use Rattle.nodes.specs.Marks.{mark_of};
 ghost use Rattle.de.specs.Columns.{usable, Within, left_at, Reads, NumbersStored, SingleStored, LengthsStored, TextsStored, CellsStored, numbered};
 
@@ -98,7 +98,7 @@ fn join(slots: &mut [u64], count: usize) -> u64
 /// Whether all texts of these lengths, one after another, are well-formed.
 fn all_well_formed(lengths: &[u64], texts: &[u8]) -> bool
     requires { sum lengths.now ≤ length texts.now }
-    ensures { result ≡ allPass (cut lengths.now texts.now) }
+    ensures { result ≡ all_pass (cut lengths.now texts.now) }
 {
     let mut place = 0;
     for length in lengths {

@@ -2,9 +2,9 @@
 
 ghost use Rattle.std.specs.Prelude.{◌≡◌, ◌^◌, ◌<◌, ℕ, length};
 ghost use Rattle.document.specs.Calls.{Cell, num, val, Value};
-ghost use Rattle.document.specs.Reader.{Ask, worthOf};
-ghost use Rattle.de.specs.Answered.{questionOf, Worthy};
-ghost use Rattle.de.specs.Asked.{marking, branching, opensPlace, opensAny, isLone, Sized, lettersOf, Fitting};
+ghost use Rattle.document.specs.Reader.{Ask, worth_of};
+ghost use Rattle.de.specs.Answered.{question_of, Worthy};
+ghost use Rattle.de.specs.Asked.{marking, branching, opens_place, opens_any, is_lone, Sized, letters_of, Fitting};
 
 use document::numbers::Number;
 use document::questions::{Answer, Question};
@@ -39,7 +39,7 @@ pub(crate) fn mark_of(question: Question) -> Mark
 
 /// Whether a question opens a place whatever the answer.
 pub(crate) fn opens_any(question: Question) -> bool
-    ensures { result ≡ opensAny question }
+    ensures { result ≡ opens_any question }
 {
     match question {
         Question::Variant | Question::Seq { .. } | Question::Map { .. } | Question::Tuple(_) => {
@@ -51,7 +51,7 @@ pub(crate) fn opens_any(question: Question) -> bool
 
 /// Whether a question is `tuple 1`, which asks nothing of its node.
 pub(crate) fn is_lone(question: Question) -> bool
-    ensures { result ≡ isLone question }
+    ensures { result ≡ is_lone question }
 {
     match question {
         Question::Tuple(n) => n == 1,
@@ -61,7 +61,7 @@ pub(crate) fn is_lone(question: Question) -> bool
 
 /// Whether an answer opens a place.
 pub(crate) fn opens_place(answer: Answer) -> bool
-    ensures { result ≡ opensPlace answer }
+    ensures { result ≡ opens_place answer }
 {
     match answer {
         Answer::Some | Answer::Variant(_) | Answer::Seq(_) | Answer::Map(_) | Answer::Tuple => true,
@@ -82,7 +82,7 @@ pub(crate) fn index_of(answer: Answer) -> Option<u32>
 
 /// The number of bytes of a text, 0 of any other answer.
 pub(crate) fn letters_of(answer: Answer) -> usize
-    ensures { result ≡ lettersOf answer }
+    ensures { result ≡ letters_of answer }
 {
     match answer {
         Answer::Text { length, .. } => length,
@@ -93,7 +93,7 @@ pub(crate) fn letters_of(answer: Answer) -> usize
 /// What a number in the slots is worth to a question; `place` is where the node's next text stands.
 pub(crate) fn worth(question: Question, number: u64, place: usize) -> Result<Answer, Refusal>
     requires { Fitting question number }
-    ensures { (a : Ask) (c : Cell) → question ≡ questionOf a → Sized a c number → Worthy (worthOf a c) place result }
+    ensures { (a : Ask) (c : Cell) → question ≡ question_of a → Sized a c number → Worthy (worth_of a c) place result }
 {
     match question {
         Question::Scalar(kind) => Ok(Answer::of_number(Number { kind, bits: number })),

@@ -54,9 +54,9 @@ impl Node {
 }
 
 impl Linked for Node {
-    ghost nextOf = { λ n. n.next };
+    ghost next_of = { λ n. n.next };
 
-    ghost withNext = { λ n k. record { mark = n.mark; count = n.count; done = n.done; first = n.first; text = n.text; index = n.index; next = k; children = n.children } };
+    ghost with_next = { λ n k. record { mark = n.mark; count = n.count; done = n.done; first = n.first; text = n.text; index = n.index; next = k; children = n.children } };
 
     ghost linked = { Prim.search rules };
 
@@ -70,7 +70,7 @@ impl Linked for Node {
 }
 
 impl Indexed for Node {
-    ghost indexOf = { λ n. n.index };
+    ghost index_of = { λ n. n.index };
 
     fn index(&self) -> u32 {
         self.index

@@ -3,8 +3,8 @@
 ghost use Rattle.std.specs.Prelude.{◌≡◌, ◌≤◌, true, List, nat_lt, vec_len};
 ghost use Rattle.document.specs.Calls.{Cell};
 ghost use Rattle.document.specs.Reader.{Ask};
-ghost use Rattle.de.specs.Moves.{sheets, lacksChild};
-ghost use Rattle.de.specs.Answered.{questionOf};
+ghost use Rattle.de.specs.Moves.{sheets, lacks_child};
+ghost use Rattle.de.specs.Answered.{question_of};
 ghost use Rattle.de.specs.Served.{Readable, Consulted, Responded};
 ghost use Rattle.de.specs.Hearing.{HearSafe, HeardIn, Heard as heard};
 
@@ -20,7 +20,7 @@ impl Tables {
     /// The answer that the node's next value makes.
     fn hear(&self, node: Node, question: Question) -> Result<Answer, Refusal>
         requires { HearSafe (sheets self.now) node question }
-        ensures { (a : Ask) (cs : List Cell) → question ≡ questionOf a → HeardIn (sheets self.now) node a cs → heard a cs node.text result }
+        ensures { (a : Ask) (cs : List Cell) → question ≡ question_of a → HeardIn (sheets self.now) node a cs → heard a cs node.text result }
     {
         if node.done == node.count {
             return Err(Refusal::Count);
@@ -35,7 +35,7 @@ impl Tables {
     /// Whether an index is new, and there is no record for its child.
     fn lacks_child(&self, child: usize, index: Option<u32>) -> bool
         requires { self.now.used ≤ 65536 }
-        ensures { result ≡ lacksChild (sheets self.now) child index }
+        ensures { result ≡ lacks_child (sheets self.now) child index }
     {
         match index {
             Some(_) if child == 0 => self.lacks_nodes(1),
@@ -53,7 +53,7 @@ impl Tables {
         deep: bool,
     ) -> Result<Heard, Refusal>
         requires readable { Readable input.now (sheets self.old) r }
-        requires asks { (a : Ask) × (question ≡ questionOf a) }
+        requires asks { (a : Ask) × (question ≡ question_of a) }
         requires rooted { nat_lt 1 (vec_len self.old.nodes) ≡ true }
         ensures { Consulted (C.Column.meaning kind.now) input.now r question deep (sheets self.old) (sheets self.new) result }
     {

@@ -2,8 +2,8 @@
 
 ghost use Rattle.std.specs.Prelude.{◌≡◌, ◌+◌, ◌<◌, ◌≤◌, length, vec_len, slice_set};
 ghost use Rattle.chain.specs.Chains.{adjust};
-ghost use Rattle.de.specs.Moves.{sheets, node, withChildren, spawned, grown, branchIn};
-ghost use Rattle.de.specs.Taken.{GrowSafe, TakeSafe, BranchSafe, columnsWith, childCount, takenIn, branched, branchThen, openedAt, occurrences};
+ghost use Rattle.de.specs.Moves.{sheets, node, with_children, spawned, grown, branch_in};
+ghost use Rattle.de.specs.Taken.{GrowSafe, TakeSafe, BranchSafe, columns_with, child_count, taken_in, branched, branch_then, opened_at, occurrences};
 
 use crate::histogram::histogram;
 use crate::records::Node;
@@ -17,7 +17,7 @@ use nodes::places::State;
 
 /// The number of columns of a node of this kind.
 fn columns_of(mark: Mark) -> u32
-    ensures { result ≡ columnsWith mark }
+    ensures { result ≡ columns_with mark }
 {
     match mark {
         Mark::Scalar(_) | Mark::Enum => 1,
@@ -29,7 +29,7 @@ fn columns_of(mark: Mark) -> u32
 
 /// How many values each child has that comes with the node's kind.
 fn child_count(view: View) -> u64
-    ensures { result ≡ childCount view }
+    ensures { result ≡ child_count view }
 {
     match view.node.mark {
         Mark::Tuple(_) => view.node.count,
@@ -40,7 +40,7 @@ fn child_count(view: View) -> u64
 /// The record r gets another chain of children.
 fn set_children(nodes: &mut [Node], r: usize, chain: Chain)
     requires { r < length nodes.old }
-    ensures { nodes.new ≡ adjust (withChildren chain) r nodes.old }
+    ensures { nodes.new ≡ adjust (with_children chain) r nodes.old }
 {
     nodes[r].children = chain;
 }
@@ -83,7 +83,7 @@ impl Tables {
     /// The node's next value is answered, with so many text bytes. Where its columns were read just now, the tables are used so far, and the children come that its kind brings.
     pub(crate) fn take_in(&mut self, r: usize, view: View, letters: usize)
         requires { TakeSafe (sheets self.old) r view letters }
-        ensures { sheets self.new ≡ takenIn r view letters (sheets self.old) }
+        ensures { sheets self.new ≡ taken_in r view letters (sheets self.old) }
     {
         let mut node = view.node;
         node.done += 1;
@@ -101,7 +101,7 @@ impl Tables {
 
     /// The record of the child with this index, 0 where there is none, or no index.
     pub(crate) fn branch(&self, node: Node, index: Option<u32>) -> usize
-        ensures { result ≡ branchIn (sheets self.now) node index }
+        ensures { result ≡ branch_in (sheets self.now) node index }
     {
         match index {
             Some(i) => find(&self.nodes, node.children, i),
@@ -122,7 +122,7 @@ impl Tables {
     /// A new index gets a record; answers the index's record.
     pub(crate) fn branch_out(&mut self, r: usize, child: usize, index: Option<u32>) -> usize
         requires { BranchSafe (sheets self.old) r child index }
-        ensures place { result ≡ branchThen child index (sheets self.old) }
+        ensures place { result ≡ branch_then child index (sheets self.old) }
         ensures tables { sheets self.new ≡ branched r child index (sheets self.old) }
     {
         match index {
@@ -143,7 +143,7 @@ impl Tables {
         answer: Answer,
     ) -> Option<State>
         requires { r < vec_len self.now.nodes }
-        ensures { result ≡ openedAt (sheets self.now) r child question answer }
+        ensures { result ≡ opened_at (sheets self.now) r child question answer }
     {
         let first = self.nodes[r].children.first;
         match (answer, question) {

@@ -3,7 +3,7 @@
 ghost use Rattle.std.specs.Prelude.{◌≡◌, ◌+◌, ◌<◌, ◌≤◌, length};
 ghost use Rattle.document.specs.Calls.{Kind};
 ghost use Rattle.nodes.specs.Marks.{mark_of as mark_of_kind};
-ghost use Rattle.de.specs.Moves.{sheets, node, lacksNodes};
+ghost use Rattle.de.specs.Moves.{sheets, node, lacks_nodes};
 ghost use Rattle.de.specs.Served.{Spared};
 ghost use Rattle.de.specs.Viewed.{LookSafe, Looks};
 
@@ -39,7 +39,7 @@ impl Tables {
     /// Whether there are too few node records for so many more.
     pub(crate) fn lacks_nodes(&self, more: u32) -> bool
         requires { self.now.used ≤ 65536 }
-        ensures { result ≡ lacksNodes (sheets self.now) more }
+        ensures { result ≡ lacks_nodes (sheets self.now) more }
     {
         self.used as u64 + u64::from(more) > self.nodes.len().min(MOST_NODES) as u64
     }

@@ -11,11 +11,11 @@ use Rattle.document.specs.declared.scalars.Scalar.TheVariants as scalars
 use Rattle.document.specs.Calls.{total, extent, Kind, SCALAR, TEXT, SEQ, MAP, ENUM, UNIT, TUPLE, Value, scalar, text, unit, none, some, variant, seq, map, tuple, kind, Call, val, end}
 use Rattle.document.specs.Nodes.{Path, ◌▹◌, alt, same}
 use Rattle.document.specs.Entries.{Entry, entry, leaves, at}
-use Rattle.document.specs.Places.{Place, Next, nowhere, there, next, full, opens, settle, tooMany, Turn, stays, goes, tell, turn, start, Onward, Complete, Runs}
-use Rattle.document.specs.Trace.{gathered, trace, went, placesAfter}
+use Rattle.document.specs.Places.{Place, Next, nowhere, there, next, full, opens, settle, too_many, Turn, stays, goes, tell, turn, start, Onward, Complete, Runs}
+use Rattle.document.specs.Trace.{gathered, trace, went, places_after}
 use Rattle.document.specs.Columns.{limit}
-use Rattle.document.specs.Tables.{cells_of, recordsOf, usableNodes, usableCells}
-use Rattle.document.specs.Verdict.{Sizes, kindNumber, any_of, strange, clash, tooLong, highIndex, illFormed, weighed, judged, verdict, Real, AcceptedAfter, Accepted, Done}
+use Rattle.document.specs.Tables.{cells_of, records_of, usable_nodes, usable_cells}
+use Rattle.document.specs.Verdict.{Sizes, kind_number, any_of, strange, clash, too_long, high_index, ill_formed, weighed, judged, verdict, Real, AcceptedAfter, Accepted, Done}
 use Rattle.document.proofs.Paths.{same_self, same_true, not-child, at-append}
 use Rattle.document.proofs.Sound.{Fits, OneKind, Sound, Sane}
 
@@ -31,28 +31,28 @@ onward (stays n) P Q f k = absurd k
 onward (goes es gs) P Q f k = f k
 
 -- the places after two lists are those after the second, from the places after the first on
-pub places-append : (fs : List Place) (ds cs : List Call) → placesAfter fs (ds ++ cs) ≡ placesAfter (placesAfter fs ds) cs
+pub places-append : (fs : List Place) (ds cs : List Call) → places_after fs (ds ++ cs) ≡ places_after (places_after fs ds) cs
 places-append fs [] cs = refl
 places-append fs (d ∷ ds) cs = places-append (went (turn fs d)) ds cs
 
 -- what two lists leave, the first of which runs
-pub trace-append : (fs : List Place) (ds cs : List Call) → Runs fs ds → trace fs (ds ++ cs) ≡ trace fs ds ++ trace (placesAfter fs ds) cs
+pub trace-append : (fs : List Place) (ds cs : List Call) → Runs fs ds → trace fs (ds ++ cs) ≡ trace fs ds ++ trace (places_after fs ds) cs
 trace-append fs [] cs r = refl
 trace-append fs (d ∷ ds) cs r = go (turn fs d) r (trace-append (went (turn fs d)) ds cs)
   where
     go : (t : Turn) → Onward t (λ gs. Runs gs ds)
-        → (Runs (went t) ds → trace (went t) (ds ++ cs) ≡ trace (went t) ds ++ trace (placesAfter (went t) ds) cs)
-        → gathered t (λ gs. trace gs (ds ++ cs)) ≡ gathered t (λ gs. trace gs ds) ++ trace (placesAfter (went t) ds) cs
+        → (Runs (went t) ds → trace (went t) (ds ++ cs) ≡ trace (went t) ds ++ trace (places_after (went t) ds) cs)
+        → gathered t (λ gs. trace gs (ds ++ cs)) ≡ gathered t (λ gs. trace gs ds) ++ trace (places_after (went t) ds) cs
     go (stays n) k ih = absurd k
-    go (goes es gs) k ih = rw (ih k) (sym (append_assoc es (trace gs ds) (trace (placesAfter gs ds) cs)))
+    go (goes es gs) k ih = rw (ih k) (sym (append_assoc es (trace gs ds) (trace (places_after gs ds) cs)))
 
 -- two lists run if the second runs where the first ends
-pub runs_append : (fs : List Place) (ds cs : List Call) → Runs fs ds → Runs (placesAfter fs ds) cs → Runs fs (ds ++ cs)
+pub runs_append : (fs : List Place) (ds cs : List Call) → Runs fs ds → Runs (places_after fs ds) cs → Runs fs (ds ++ cs)
 runs_append fs [] cs r s = s
 runs_append fs (d ∷ ds) cs r s = onward (turn fs d) (λ gs. Runs gs ds) (λ gs. Runs gs (ds ++ cs)) (λ k. runs_append (went (turn fs d)) ds cs k s) r
 
 -- a list that runs until no place is open is complete
-pub runs-complete : (fs : List Place) (cs : List Call) → Runs fs cs → placesAfter fs cs ≡ [] → Complete fs cs
+pub runs-complete : (fs : List Place) (cs : List Call) → Runs fs cs → places_after fs cs ≡ [] → Complete fs cs
 runs-complete fs [] r e = e
 runs-complete fs (c ∷ cs) r e = onward (turn fs c) (λ gs. Runs gs cs) (λ gs. Complete gs cs) (λ k. runs-complete (went (turn fs c)) cs k e) r
 
@@ -62,16 +62,16 @@ runs-complete fs (c ∷ cs) r e = onward (turn fs c) (λ gs. Runs gs cs) (λ gs.
 pub record Taken (done : List Call) (c : Call) : Type 0 where
   pub left : List Entry
   pub onto : List Place
-  pub turned : turn (placesAfter start done) c ≡ goes left onto
+  pub turned : turn (places_after start done) c ≡ goes left onto
   pub traced : trace start (done ++ c ∷ []) ≡ trace start done ++ left
-  pub moved : placesAfter start (done ++ c ∷ []) ≡ onto
+  pub moved : places_after start (done ++ c ∷ []) ≡ onto
   pub runs : Runs start (done ++ c ∷ [])
 
 -- a call that is accepted after calls that run is taken
 pub accepted-runs : (sizes : Sizes) (done : List Call) (c : Call) → Runs start done → verdict sizes done c ≡ Ok tt → Taken done c
-accepted-runs sizes done c r e = go (turn (placesAfter start done) c) refl e
+accepted-runs sizes done c r e = go (turn (places_after start done) c) refl e
   where
-    go : (t : Turn) → turn (placesAfter start done) c ≡ t → judged sizes (trace start done) c t ≡ Ok tt → Taken done c
+    go : (t : Turn) → turn (places_after start done) c ≡ t → judged sizes (trace start done) c t ≡ Ok tt → Taken done c
     go (stays n) is e = never (cc)
     go (goes es gs) is e =
         record {
@@ -102,8 +102,8 @@ abbrev pub kind_at : ℕ → Kind
 kind_at n = get_or plain n (TUPLE (n - 15))
 
 -- a kind is that of its number
-pub kindAt-number : (k : Kind) → kind_at (kindNumber k) ≡ k
-kindAt-number = elim [
+pub kind_at-number : (k : Kind) → kind_at (kind_number k) ≡ k
+kind_at-number = elim [
   | SCALAR scalars.Bool ↦ refl
   | SCALAR scalars.U8 ↦ refl
   | SCALAR scalars.U16 ↦ refl
@@ -123,12 +123,12 @@ kindAt-number = elim [
 ]
 
 -- two kinds with one number are one
-pub kind-number-injective : (J K : Kind) → kindNumber J ≡ kindNumber K → J ≡ K
-kind-number-injective J K e = sym (kindAt-number J) ∙ ap kind_at e ∙ kindAt-number K
+pub kind-number-injective : (J K : Kind) → kind_number J ≡ kind_number K → J ≡ K
+kind-number-injective J K e = sym (kind_at-number J) ∙ ap kind_at e ∙ kind_at-number K
 
 -- a value that is not strange after the first is of its kind
 pub same_kind : (u v : Value) (us : List Value) → strange (u ∷ us) v ≡ false → kind v ≡ kind u
-same_kind u v us e = sym (kind-number-injective (kind u) (kind v) (eqb-true (kindNumber (kind u)) (kindNumber (kind v)) (not-false (eqb (kindNumber (kind u)) (kindNumber (kind v))) e)))
+same_kind u v us e = sym (kind-number-injective (kind u) (kind v) (eqb-true (kind_number (kind u)) (kind_number (kind v)) (not-false (eqb (kind_number (kind u)) (kind_number (kind v))) e)))
 
 -- ---- the values at one node
 
@@ -156,12 +156,12 @@ abbrev pub Fitting : List Value → Type 0
 Fitting vs = OneKind vs × AllByRecursion Fits vs
 
 -- entries that pass the tests keep a node sound
-sound-append : (ts es : List Entry) (q : Path) → Sound (at q ts) → Fitting (at q es) → any_of (clash ts) es ≡ false → any_of (tooLong (ts ++ es)) es ≡ false → Sound (at q (ts ++ es))
+sound-append : (ts es : List Entry) (q : Path) → Sound (at q ts) → Fitting (at q es) → any_of (clash ts) es ≡ false → any_of (too_long (ts ++ es)) es ≡ false → Sound (at q (ts ++ es))
 sound-append ts es q h k c l =
     record {
       one-kind = rw at-append (one-kind-append (at q ts) (at q es) h.one-kind k.0 (none-at (clash ts) q es c));
       fits = rw at-append (All-append Fits (at q ts) (at q es) h.fits k.1);
-      short-of = short-append (at q ts) (at q es) (at q (ts ++ es)) (at-append q ts es) h.short-of (none-at (tooLong (ts ++ es)) q es l);
+      short-of = short-append (at q ts) (at q es) (at q (ts ++ es)) (at-append q ts es) h.short-of (none-at (too_long (ts ++ es)) q es l);
     }
 
 -- ---- what a call leaves
@@ -172,7 +172,7 @@ lone-value true v h = (tt, (h, tt))
 lone-value false v h = (tt, tt)
 
 -- at each node a value call leaves one value at most, which fits
-pub leaves-fit : (q p : Path) (v : Value) → Real (val v) → highIndex v ≡ false → illFormed v ≡ false → Fitting (at q (leaves p v))
+pub leaves-fit : (q p : Path) (v : Value) → Real (val v) → high_index v ≡ false → ill_formed v ≡ false → Fitting (at q (leaves p v))
 leaves-fit q p (scalar k b) r i f = lone-value (same p q) (scalar k b) r
 leaves-fit q p (text bs) r i f = lone-value (same p q) (text bs) (not-false (passes bs) f)
 leaves-fit q p unit r i f = lone-value (same p q) unit tt
@@ -204,14 +204,14 @@ turn-leaves (f ∷ fs) (val v) = go (next f)
   where
     go : (n : Next) → Leaving (val v) (tell v fs n)
     go nowhere = tt
-    go (there p g) = cond_both (tooMany (length (opens p v ++ g ∷ fs))) (stays Depth) (goes (leaves p v) (settle (opens p v ++ g ∷ fs))) (Leaving (val v)) (λ _. tt) (λ _. (p, refl))
+    go (there p g) = cond_both (too_many (length (opens p v ++ g ∷ fs))) (stays Depth) (goes (leaves p v) (settle (opens p v ++ g ∷ fs))) (Leaving (val v)) (λ _. tt) (λ _. (p, refl))
 turn-leaves (f ∷ fs) end = cond_both (full f) (goes [] (settle fs)) (stays Count) (Leaving end) (λ _. refl) (λ _. tt)
 
 -- ---- accepted lists
 
 -- what the entries take is within the tables
 abbrev pub Within : Sizes → List Entry → Type 0
-Within sizes ts = (1 + recordsOf ts ≤ usableNodes sizes.nodes) × (cells_of ts ≤ usableCells sizes.cells)
+Within sizes ts = (1 + records_of ts ≤ usable_nodes sizes.nodes) × (cells_of ts ≤ usable_cells sizes.cells)
 
 -- an accepted value keeps each node sound and the tables within their sizes
 pub value-kept : (sizes : Sizes) (ts es : List Entry) (v : Value) (p : Path) → es ≡ leaves p v → Real (val v) → weighed sizes ts v es ≡ Ok tt → ((q : Path) → Sound (at q ts)) → ((q : Path) → Sound (at q (ts ++ es))) × Within sizes (ts ++ es)
@@ -236,12 +236,12 @@ pub record Held (sizes : Sizes) (cs : List Call) : Type 0 where
 held_more : (sizes : Sizes) (done : List Call) (c : Call) → Held sizes done → Real c → verdict sizes done c ≡ Ok tt → Held sizes (done ++ c ∷ [])
 held_more sizes done (val v) h r e =
     let t = accepted-runs sizes done (val v) h.runs e in
-    let l = subst (Leaving (val v)) t.turned (turn-leaves (placesAfter start done) (val v)) in
+    let l = subst (Leaving (val v)) t.turned (turn-leaves (places_after start done) (val v)) in
     let k = value-kept sizes (trace start done) t.left v l.0 l.1 r (rw t.turned at e) h.sound in
     record { runs = t.runs; sound = rw t.traced k.0; within = inr (rw t.traced k.1) }
 held_more sizes done end h r e =
     let t = accepted-runs sizes done end h.runs e in
-    let l = subst (Leaving end) t.turned (turn-leaves (placesAfter start done) end) in
+    let l = subst (Leaving end) t.turned (turn-leaves (places_after start done) end) in
     let still : trace start (done ++ end ∷ []) ≡ trace start done = t.traced ∙ ap (λ es. trace start done ++ es) l ∙ append-nil (trace start done) in
     let first = λ (none_yet : done ≡ []). subst (λ (ds : List Call). verdict sizes ds end ≡ Ok tt) none_yet e in
     record { runs = t.runs; sound = rw still h.sound; within = elim h.within [ inl none_yet ↦ never (cc (first none_yet)) | inr w ↦ inr (rw still w) ] }

@@ -3,7 +3,7 @@ use Rattle.std.proofs.Common.{◌≡◌, ℕ, ◌+◌, ◌-◌, ◌≤◌, Bool,
 use Rattle.std.proofs.lemmas.Bool.{eq-eqb, le-leb}
 use Rattle.column.specs.Meaning.{Meaning, Lawful}
 use Rattle.document.proofs.Sound.{OneKind, Sound}
-use Rattle.document.specs.Bytes.{keep, others, firsts, written, nodeBytes}
+use Rattle.document.specs.Bytes.{keep, others, firsts, written, node_bytes}
 use Rattle.document.specs.Calls.{Kind, SCALAR, TEXT, SEQ, MAP, ENUM, UNIT, TUPLE, Value, unit, kind, cell, total}
 use Rattle.document.specs.Columns.{columns, joined}
 use Rattle.document.specs.Entries.{Entry, entry, at}
@@ -37,18 +37,18 @@ abbrev pub origin : List Entry → List Entry → Path → ℕ
 origin ts ps root = 1
 origin ts ps (r ▹ s) = cond (touched (at r ps)) (length (at (r ▹ s) ts)) 0
 
-abbrev pub nodesAt : List Entry → List Entry → List Entry → Path → Node
-nodesAt ts ps es q = state (at q ps) (at q es) (origin ts ps q)
+abbrev pub nodes_at : List Entry → List Entry → List Entry → Path → Node
+nodes_at ts ps es q = state (at q ps) (at q es) (origin ts ps q)
 
-abbrev pub isNil : List Value → Bool
-isNil [] = true
-isNil (v ∷ vs) = false
+abbrev pub is_nil : List Value → Bool
+is_nil [] = true
+is_nil (v ∷ vs) = false
 
 abbrev pub unseen : List Entry → Path → Bool
-unseen ps q = isNil (at q ps)
+unseen ps q = is_nil (at q ps)
 
 abbrev pub remaining : Meaning → List Entry → List Entry → List Entry → List ℕ
-remaining col ts ps es = joined (each (nodeBytes col ts) (keep (unseen ps) (firsts es)))
+remaining col ts ps es = joined (each (node_bytes col ts) (keep (unseen ps) (firsts es)))
 
 -- ---- one more entry
 
@@ -64,7 +64,7 @@ at_on p v ps = at-append p ps (entry p v ∷ []) ∙ ap (λ xs. at p ps ++ xs) (
 pub at_off : (p q : Path) (v : Value) (ps : List Entry) → same p q ≡ false → at q (ps ++ entry p v ∷ []) ≡ at q ps
 at_off p q v ps e = at-append q ps (entry p v ∷ []) ∙ ap (λ xs. at q ps ++ xs) (at-past p q v [] e) ∙ append-nil (at q ps)
 
-pub not-nil : (xs : List Value) (v : Value) → isNil (xs ++ v ∷ []) ≡ false
+pub not-nil : (xs : List Value) (v : Value) → is_nil (xs ++ v ∷ []) ≡ false
 not-nil [] v = refl
 not-nil (x ∷ xs) v = refl
 
@@ -75,9 +75,9 @@ keep-push p v ps (q ∷ qs) = rw (at-append q ps (entry p v ∷ [])) (go (same p
   where
     go : (b : Bool) → keep (unseen ps) (others p qs) ≡ keep (unseen (ps ++ entry p v ∷ [])) qs
         → keep (unseen ps) (cond (not b) (q ∷ others p qs) (others p qs))
-        ≡ cond (isNil (at q ps ++ cond b (v ∷ []) [])) (q ∷ keep (unseen (ps ++ entry p v ∷ [])) qs) (keep (unseen (ps ++ entry p v ∷ [])) qs)
+        ≡ cond (is_nil (at q ps ++ cond b (v ∷ []) [])) (q ∷ keep (unseen (ps ++ entry p v ∷ [])) qs) (keep (unseen (ps ++ entry p v ∷ [])) qs)
     go true h = rw (not-nil (at q ps) v) h
-    go false h = rw (append-nil (at q ps)) (ap (λ l. cond (isNil (at q ps)) (q ∷ l) l) h)
+    go false h = rw (append-nil (at q ps)) (ap (λ l. cond (is_nil (at q ps)) (q ∷ l) l) h)
 
 -- ---- a unit: it changes nothing
 
@@ -102,7 +102,7 @@ state-unit (x ∷ xs) us n true h = let e : UNIT ≡ kind x = last-kind x unit x
 state-unit (x ∷ xs) us n false h = refl
 
 pub nodes-unit : (ts ps es : List Entry) (p : Path) → ((q : Path) → OneKind (at q ps ++ at q (entry p unit ∷ es)))
-    → (q : Path) → nodesAt ts ps (entry p unit ∷ es) q ≡ nodesAt ts (ps ++ entry p unit ∷ []) es q
+    → (q : Path) → nodes_at ts ps (entry p unit ∷ es) q ≡ nodes_at ts (ps ++ entry p unit ∷ []) es q
 nodes-unit ts ps es p kinds q =
     rw (origin-unit ts ps p q, at-append q ps (entry p unit ∷ []))
     (state-unit (at q ps) (at q es) (origin ts ps q) (same p q) (λ e. rw e at (kinds q)))
@@ -129,7 +129,7 @@ pub remaining-seen : (col : Meaning) (ts ps es : List Entry) (p : Path) (v u : V
 remaining-seen col ts ps es p v u us e = rw (e, keep-push p v ps (firsts es)) refl
 
 remaining-new : (col : Meaning) (ts ps es : List Entry) (p : Path) (v : Value) → at p ps ≡ []
-    → remaining col ts ps (entry p v ∷ es) ≡ nodeBytes col ts p ++ remaining col ts (ps ++ entry p v ∷ []) es
+    → remaining col ts ps (entry p v ∷ es) ≡ node_bytes col ts p ++ remaining col ts (ps ++ entry p v ∷ []) es
 remaining-new col ts ps es p v e = rw (e, keep-push p v ps (firsts es)) refl
 
 pub remaining-unit : (col : Meaning) (ts ps es : List Entry) (p : Path) → Whole ts ps (entry p unit ∷ es)
@@ -147,7 +147,7 @@ pub input-new : (col : Meaning) (ts ps es : List Entry) (p : Path) (v : Value) (
 input-new col ts ps es p v after whole e =
     let w : at p ts ≡ v ∷ at p es = whole-first ts ps es p v whole e in
     let bs : List ℕ = remaining col ts (ps ++ entry p v ∷ []) es ++ after in
-    ap (λ l. l ++ after) (remaining-new col ts ps es p v e) ∙ append_assoc (nodeBytes col ts p) (remaining col ts (ps ++ entry p v ∷ []) es) after
+    ap (λ l. l ++ after) (remaining-new col ts ps es p v e) ∙ append_assoc (node_bytes col ts p) (remaining col ts (ps ++ entry p v ∷ []) es) after
     ∙ ap (λ vs. written col vs ++ bs) w ∙ ap (λ vs. columns col (kind v) (each cell vs) ++ bs) (sym w)
 
 -- ---- the first look at a node
@@ -175,7 +175,7 @@ total-demands K s (v ∷ vs) h = ap₂ ◌+◌ (ap (λ J. demand J s (cell v)) (
 
 -- a node other than the entry's, whose parent is another too
 state-off : (ts ps es : List Entry) (p q : Path) (v : Value) → same p q ≡ false → origin ts (ps ++ entry p v ∷ []) q ≡ origin ts ps q
-    → nodesAt ts ps (entry p v ∷ es) q ≡ nodesAt ts (ps ++ entry p v ∷ []) es q
+    → nodes_at ts ps (entry p v ∷ es) q ≡ nodes_at ts (ps ++ entry p v ∷ []) es q
 state-off ts ps es p q v e o = rw (at-past p q v es e, at_off p q v ps e, o) refl
 
 origin-off : (ts ps : List Entry) (p r : Path) (s : Step) (v : Value) → same p r ≡ false → origin ts (ps ++ entry p v ∷ []) (r ▹ s) ≡ origin ts ps (r ▹ s)
@@ -183,7 +183,7 @@ origin-off ts ps p r s v e = rw (at_off p r v ps e) refl
 
 -- the node itself
 state-on : (ts ps es : List Entry) (p : Path) (v : Value) → unit_kind (kind v) ≡ false → OneKind (at p ps ++ v ∷ at p es)
-    → nodesAt ts (ps ++ entry p v ∷ []) es p ≡ ready (kind v) (each cell (at p es))
+    → nodes_at ts (ps ++ entry p v ∷ []) es p ≡ ready (kind v) (each cell (at p es))
 state-on ts ps es p v f h = rw (at_on p v ps) (go (at p ps) h)
   where
     go : (xs : List Value) → OneKind (xs ++ v ∷ at p es) → state (xs ++ v ∷ []) (at p es) (origin ts (ps ++ entry p v ∷ []) p) ≡ ready (kind v) (each cell (at p es))
@@ -193,8 +193,8 @@ state-on ts ps es p v f h = rw (at_on p v ps) (go (at p ps) h)
 pub nodes-new : (col : Meaning) (ts ps es : List Entry) (p : Path) (v : Value) (ns : Path → Node)
     → unit_kind (kind v) ≡ false → Sound (at p ts) → Whole ts ps (entry p v ∷ es) → at p ps ≡ [] → ((s : Step) → at (p ▹ s) ps ≡ [])
     → ((s : Step) → length (at (p ▹ s) ts) ≡ total (demands s) (at p ts))
-    → ((q : Path) → ns q ≡ nodesAt ts ps (entry p v ∷ es) q)
-    → (q : Path) → put p (ready (kind v) (each cell (at p es))) (spread p (kind v) (each cell (at p ts)) ns) q ≡ nodesAt ts (ps ++ entry p v ∷ []) es q
+    → ((q : Path) → ns q ≡ nodes_at ts ps (entry p v ∷ es) q)
+    → (q : Path) → put p (ready (kind v) (each cell (at p es))) (spread p (kind v) (each cell (at p ts)) ns) q ≡ nodes_at ts (ps ++ entry p v ∷ []) es q
 nodes-new col ts ps es p v ns f sound whole first childless counted nodes q = go (same p q) refl
   where
     ps' : List Entry
@@ -206,22 +206,22 @@ nodes-new col ts ps es p v ns f sound whole first childless counted nodes q = go
     s' : Sound (v ∷ at p es)
     s' = rw w at sound
 
-    own : put p (ready (kind v) (each cell (at p es))) (spread p (kind v) (each cell (at p ts)) ns) p ≡ nodesAt ts (ps ++ entry p v ∷ []) es p
+    own : put p (ready (kind v) (each cell (at p es))) (spread p (kind v) (each cell (at p ts)) ns) p ≡ nodes_at ts (ps ++ entry p v ∷ []) es p
     own = rw (same_self p) (sym (state-on ts ps es p v f (rw first s'.one-kind)))
 
-    child : (s : Step) → fresh (total (demand (kind v) s) (each cell (at p ts))) ≡ nodesAt ts (ps ++ entry p v ∷ []) es (p ▹ s)
+    child : (s : Step) → fresh (total (demand (kind v) s) (each cell (at p ts))) ≡ nodes_at ts (ps ++ entry p v ∷ []) es (p ▹ s)
     child s = rw (at_off p (p ▹ s) v ps (not-child p s), childless s, at_on p v ps, first, f, counted s, w) (ap fresh (total-demands (kind v) s (v ∷ at p es) (refl, s'.one-kind)))
 
-    other : (q : Path) → same p q ≡ false → spread p (kind v) (each cell (at p ts)) ns q ≡ nodesAt ts (ps ++ entry p v ∷ []) es q
+    other : (q : Path) → same p q ≡ false → spread p (kind v) (each cell (at p ts)) ns q ≡ nodes_at ts (ps ++ entry p v ∷ []) es q
     other root e = nodes root ∙ state-off ts ps es p root v e refl
     other (r ▹ s) e = below (same p r) refl
       where
-        below : (b : Bool) → same p r ≡ b → cond b (fresh (total (demand (kind v) s) (each cell (at p ts)))) (ns (r ▹ s)) ≡ nodesAt ts (ps ++ entry p v ∷ []) es (r ▹ s)
-        below true k = child s ∙ ap (λ o. nodesAt ts (ps ++ entry p v ∷ []) es (o ▹ s)) (same_true p r k)
+        below : (b : Bool) → same p r ≡ b → cond b (fresh (total (demand (kind v) s) (each cell (at p ts)))) (ns (r ▹ s)) ≡ nodes_at ts (ps ++ entry p v ∷ []) es (r ▹ s)
+        below true k = child s ∙ ap (λ o. nodes_at ts (ps ++ entry p v ∷ []) es (o ▹ s)) (same_true p r k)
         below false k = nodes (r ▹ s) ∙ state-off ts ps es p (r ▹ s) v e (origin-off ts ps p r s v k)
 
-    go : (b : Bool) → same p q ≡ b → put p (ready (kind v) (each cell (at p es))) (spread p (kind v) (each cell (at p ts)) ns) q ≡ nodesAt ts (ps ++ entry p v ∷ []) es q
-    go true e = subst (λ (o : Path). put p (ready (kind v) (each cell (at p es))) (spread p (kind v) (each cell (at p ts)) ns) o ≡ nodesAt ts (ps ++ entry p v ∷ []) es o) (same_true p q e) own
+    go : (b : Bool) → same p q ≡ b → put p (ready (kind v) (each cell (at p es))) (spread p (kind v) (each cell (at p ts)) ns) q ≡ nodes_at ts (ps ++ entry p v ∷ []) es q
+    go true e = subst (λ (o : Path). put p (ready (kind v) (each cell (at p es))) (spread p (kind v) (each cell (at p ts)) ns) o ≡ nodes_at ts (ps ++ entry p v ∷ []) es o) (same_true p q e) own
     go false e = rw e (other q e)
 
 -- ---- a later look at a node
@@ -236,19 +236,19 @@ origin-seen ts ps p (r ▹ s) v u us h = go (same p r) refl
 
 pub nodes-seen : (ts ps es : List Entry) (p : Path) (v u : Value) (us : List Value) (ns : Path → Node)
     → unit_kind (kind v) ≡ false → OneKind (at p ps ++ v ∷ at p es) → at p ps ≡ u ∷ us
-    → ((q : Path) → ns q ≡ nodesAt ts ps (entry p v ∷ es) q)
-    → (q : Path) → put p (ready (kind v) (each cell (at p es))) ns q ≡ nodesAt ts (ps ++ entry p v ∷ []) es q
+    → ((q : Path) → ns q ≡ nodes_at ts ps (entry p v ∷ es) q)
+    → (q : Path) → put p (ready (kind v) (each cell (at p es))) ns q ≡ nodes_at ts (ps ++ entry p v ∷ []) es q
 nodes-seen ts ps es p v u us ns f kinds h nodes q = go (same p q) refl
   where
-    own : put p (ready (kind v) (each cell (at p es))) ns p ≡ nodesAt ts (ps ++ entry p v ∷ []) es p
+    own : put p (ready (kind v) (each cell (at p es))) ns p ≡ nodes_at ts (ps ++ entry p v ∷ []) es p
     own = rw (same_self p) (sym (state-on ts ps es p v f kinds))
 
-    go : (b : Bool) → same p q ≡ b → put p (ready (kind v) (each cell (at p es))) ns q ≡ nodesAt ts (ps ++ entry p v ∷ []) es q
-    go true e = subst (λ (o : Path). put p (ready (kind v) (each cell (at p es))) ns o ≡ nodesAt ts (ps ++ entry p v ∷ []) es o) (same_true p q e) own
+    go : (b : Bool) → same p q ≡ b → put p (ready (kind v) (each cell (at p es))) ns q ≡ nodes_at ts (ps ++ entry p v ∷ []) es q
+    go true e = subst (λ (o : Path). put p (ready (kind v) (each cell (at p es))) ns o ≡ nodes_at ts (ps ++ entry p v ∷ []) es o) (same_true p q e) own
     go false e = rw e (nodes q ∙ state-off ts ps es p q v e (origin-seen ts ps p q v u us h))
 
 pub look-seen : (col : Meaning) (ts ps es : List Entry) (p : Path) (v u : Value) (us : List Value) (st : Store)
-    → unit_kind (kind v) ≡ false → OneKind (at p ps ++ v ∷ at p es) → at p ps ≡ u ∷ us → st.nodes p ≡ nodesAt ts ps (entry p v ∷ es) p
+    → unit_kind (kind v) ≡ false → OneKind (at p ps ++ v ∷ at p es) → at p ps ≡ u ∷ us → st.nodes p ≡ nodes_at ts ps (entry p v ∷ es) p
     → look col p (kind v) st ≡ found (cell v ∷ each cell (at p es)) st
 look-seen col ts ps es p v u us st f kinds h node =
     let k : kind v ≡ kind u = last-kind u v us (at p es) (rw h at kinds) in

@@ -4,8 +4,8 @@ use Rattle.std.proofs.lemmas.Bool.Decides.{nat_tests}
 use Rattle.document.specs.Calls.{total, Value, scalar, text, unit, none, some, variant, seq, map, tuple, Call, val, end}
 use Rattle.document.specs.Entries.{Entry, at, leaves}
 use Rattle.document.specs.Nodes.{Step, Path, elem, key, value, field, alt, root, ◌▹◌, alike, same, demands, field_of}
-use Rattle.document.specs.Places.{Place, items, keys, vals, fields, lone, only, closing, Next, nowhere, there, next, full, opens, settle, Turn, stays, goes, tooMany, tell, turn, start, Onward, Complete, Runs}
-use Rattle.document.specs.Trace.{gathered, trace, went, placesAfter}
+use Rattle.document.specs.Places.{Place, items, keys, vals, fields, lone, only, closing, Next, nowhere, there, next, full, opens, settle, Turn, stays, goes, too_many, tell, turn, start, Onward, Complete, Runs}
+use Rattle.document.specs.Trace.{gathered, trace, went, places_after}
 use Rattle.document.specs.declared.refusals.Refusal.TheVariants.{Count, Depth}
 use Rattle.document.proofs.Paths.{total-append, at-append}
 
@@ -157,7 +157,7 @@ turn-balanced q (f ∷ fs) (val v) = go (next f) (next-owed q f)
   where
     go : (n : Next) → Owing q f n → Balanced q (f ∷ fs) (tell v fs n)
     go nowhere h = tt
-    go (there p g) h = deep (tooMany (length (opens p v ++ g ∷ fs)))
+    go (there p g) h = deep (too_many (length (opens p v ++ g ∷ fs)))
       where
         deep : (b : Bool) → Balanced q (f ∷ fs) (cond b (stays Depth) (goes (leaves p v) (settle (opens p v ++ g ∷ fs))))
         deep true = tt
@@ -169,21 +169,21 @@ turn-balanced q (f ∷ fs) end = go (full f) (full-spent q f)
     go false h = tt
 
 -- what was owed at first and what was demanded on the way has come, or is owed still
-pub balanced : (q : Path) (cs : List Call) (fs : List Place) → Runs fs cs → owes fs q + due (trace fs cs) q ≡ length (at q (trace fs cs)) + owes (placesAfter fs cs) q
+pub balanced : (q : Path) (cs : List Call) (fs : List Place) → Runs fs cs → owes fs q + due (trace fs cs) q ≡ length (at q (trace fs cs)) + owes (places_after fs cs) q
 balanced q [] fs h = omega (arith, due-none q)
 balanced q (c ∷ cs) fs h = go (turn fs c) (turn-balanced q fs c) h (balanced q cs)
   where
     go : (t : Turn) → Balanced q fs t → Onward t (λ gs. Runs gs cs)
-        → ((gs : List Place) → Runs gs cs → owes gs q + due (trace gs cs) q ≡ length (at q (trace gs cs)) + owes (placesAfter gs cs) q)
-        → owes fs q + due (gathered t (λ gs. trace gs cs)) q ≡ length (at q (gathered t (λ gs. trace gs cs))) + owes (placesAfter (went t) cs) q
+        → ((gs : List Place) → Runs gs cs → owes gs q + due (trace gs cs) q ≡ length (at q (trace gs cs)) + owes (places_after gs cs) q)
+        → owes fs q + due (gathered t (λ gs. trace gs cs)) q ≡ length (at q (gathered t (λ gs. trace gs cs))) + owes (places_after (went t) cs) q
     go (stays n) b k ih = absurd k
     go (goes es gs) b k ih = omega (arith, ih gs k, due-append es (trace gs cs) q, length-append (at q es) (at q (trace gs cs)), ap length (at-append q es (trace gs cs)))
 
-complete-runs : (fs : List Place) (cs : List Call) → Complete fs cs → Runs fs cs × (placesAfter fs cs ≡ [])
+complete-runs : (fs : List Place) (cs : List Call) → Complete fs cs → Runs fs cs × (places_after fs cs ≡ [])
 complete-runs fs [] h = (tt, h)
 complete-runs fs (c ∷ cs) h = go (turn fs c) h (λ gs. complete-runs gs cs)
   where
-    go : (t : Turn) → Onward t (λ gs. Complete gs cs) → ((gs : List Place) → Complete gs cs → Runs gs cs × (placesAfter gs cs ≡ [])) → Onward t (λ gs. Runs gs cs) × (placesAfter (went t) cs ≡ [])
+    go : (t : Turn) → Onward t (λ gs. Complete gs cs) → ((gs : List Place) → Complete gs cs → Runs gs cs × (places_after gs cs ≡ [])) → Onward t (λ gs. Runs gs cs) × (places_after (went t) cs ≡ [])
     go (stays n) k ih = absurd k
     go (goes es gs) k ih = ih gs k
 

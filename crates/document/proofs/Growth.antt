@@ -5,11 +5,11 @@ use Rattle.document.specs.Calls.{Kind, ENUM, Value, scalar, text, unit, none, so
 use Rattle.document.specs.Nodes.{Path, root, ◌▹◌, Step, alt, same}
 use Rattle.document.specs.Entries.{Entry, at}
 use Rattle.document.specs.Bytes.{firsts}
-use Rattle.document.specs.Tables.{takes, branchOf, unbranched, cells, cells_of, recordsOf, lettersOf}
-use Rattle.document.specs.Records.{had, marked, added, addedBy, nodesOf, times}
+use Rattle.document.specs.Tables.{takes, branch_of, unbranched, cells, cells_of, records_of, letters_of}
+use Rattle.document.specs.Records.{had, marked, added, added_by, nodes_of, times}
 use Rattle.document.proofs.Paths.{same_self, same_true, total-append}
 use Rattle.document.proofs.Sound.{OneKind}
-use Rattle.document.proofs.Between.{isNil}
+use Rattle.document.proofs.Between.{is_nil}
 use Rattle.document.proofs.Allotting.{length-brought, length-added, times-firsts, times-append, spawned, times-spawned, spawned-alt}
 -- an entry's records; the nodes that have a value, and the indices at a node, with one more entry
 pub use Rattle.document.proofs.Allotting.{length-added-one, firsts-snoc, had-snoc}
@@ -17,29 +17,29 @@ pub use Rattle.document.proofs.Allotting.{length-added-one, firsts-snoc, had-sno
 -- ---- the nodes with a record
 
 -- What two lists of entries add is what each adds, the second after the first.
-pub added-append : (ts ds es : List Entry) → addedBy ts (ds ++ es) ≡ addedBy ts ds ++ addedBy (ts ++ ds) es
-added-append ts [] es = ap (λ xs. addedBy xs es) (sym (append-nil ts))
+pub added-append : (ts ds es : List Entry) → added_by ts (ds ++ es) ≡ added_by ts ds ++ added_by (ts ++ ds) es
+added-append ts [] es = ap (λ xs. added_by xs es) (sym (append-nil ts))
 added-append ts (d ∷ ds) es =
     ap (λ l. added ts d ++ l) (added-append (ts ++ d ∷ []) ds es)
-    ∙ sym (append_assoc (added ts d) (addedBy (ts ++ d ∷ []) ds) (addedBy ((ts ++ d ∷ []) ++ ds) es))
-    ∙ ap (λ xs. (added ts d ++ addedBy (ts ++ d ∷ []) ds) ++ addedBy xs es) (append_assoc ts (d ∷ []) ds)
+    ∙ sym (append_assoc (added ts d) (added_by (ts ++ d ∷ []) ds) (added_by ((ts ++ d ∷ []) ++ ds) es))
+    ∙ ap (λ xs. (added ts d ++ added_by (ts ++ d ∷ []) ds) ++ added_by xs es) (append_assoc ts (d ∷ []) ds)
 
 -- More entries bring their nodes after those that have a record.
-pub nodes-more : (ts es : List Entry) → nodesOf (ts ++ es) ≡ nodesOf ts ++ addedBy ts es
+pub nodes-more : (ts es : List Entry) → nodes_of (ts ++ es) ≡ nodes_of ts ++ added_by ts es
 nodes-more ts es = ap (λ l. root ∷ l) (added-append [] ts es)
 
 -- One more entry brings its nodes after those that have a record.
-pub nodes-snoc : (ts : List Entry) (e : Entry) → nodesOf (ts ++ e ∷ []) ≡ nodesOf ts ++ added ts e
-nodes-snoc ts e = nodes-more ts (e ∷ []) ∙ ap (λ l. nodesOf ts ++ l) (append-nil (added ts e))
+pub nodes-snoc : (ts : List Entry) (e : Entry) → nodes_of (ts ++ e ∷ []) ≡ nodes_of ts ++ added ts e
+nodes-snoc ts e = nodes-more ts (e ∷ []) ∙ ap (λ l. nodes_of ts ++ l) (append-nil (added ts e))
 
 -- ---- what is taken of the tables
 
 -- More entries take the records of the nodes that they add.
-pub records-more : (ts es : List Entry) → recordsOf (ts ++ es) ≡ recordsOf ts + length (addedBy ts es)
+pub records-more : (ts es : List Entry) → records_of (ts ++ es) ≡ records_of ts + length (added_by ts es)
 records-more ts es = omega (arith, length-added ts es)
 
 -- The mark of a node takes records with the first value there, and none later.
-pub length_marked : (vs : List Value) (p : Path) (K : Kind) → length (marked vs p K) ≡ cond (isNil vs) (takes K) 0
+pub length_marked : (vs : List Value) (p : Path) (K : Kind) → length (marked vs p K) ≡ cond (is_nil vs) (takes K) 0
 length_marked [] p K = length-brought p K
 length_marked (v ∷ vs) p K = refl
 
@@ -48,22 +48,22 @@ pub cells-more : (ts es : List Entry) → cells_of (ts ++ es) ≡ cells_of ts + 
 cells-more ts es = total-append (λ e. cells e.said) ts es
 
 -- More entries take their own letters more.
-pub letters-more : (ts es : List Entry) → lettersOf (ts ++ es) ≡ lettersOf ts + lettersOf es
+pub letters-more : (ts es : List Entry) → letters_of (ts ++ es) ≡ letters_of ts + letters_of es
 letters-more ts es = total-append (λ e. length (str (cell e.said))) ts es
 
 -- ---- the children of a node
 
 -- A branch has a record exactly where its index is among the values of its parent.
-pub branch-there : (ts : List Entry) (p : Path) (i : ℕ) → times (p ▹ alt i) (nodesOf ts) ≡ cond (had (λ j. false) (at p ts) i) 1 0
+pub branch-there : (ts : List Entry) (p : Path) (i : ℕ) → times (p ▹ alt i) (nodes_of ts) ≡ cond (had (λ j. false) (at p ts) i) 1 0
 branch-there ts p i = omega (arith, times-spawned p (alt i) [] ts, spawned-alt p i (at p ts))
 
 -- No child of a node without a value has a record.
-pub unmarked-childless : (ts : List Entry) (p : Path) (s : Step) → at p ts ≡ [] → times (p ▹ s) (nodesOf ts) ≡ 0
+pub unmarked-childless : (ts : List Entry) (p : Path) (s : Step) → at p ts ≡ [] → times (p ▹ s) (nodes_of ts) ≡ 0
 unfolding spawned
 unmarked-childless ts p s e = omega (arith, times-spawned p s [] ts, ap (λ (vs : List Value). times (p ▹ s) (spawned p [] vs)) e)
 
 -- A value of another kind than ENUM takes no index.
-pub unbranched-of : (v : Value) → kind v ≢ ENUM → branchOf v ≡ unbranched
+pub unbranched-of : (v : Value) → kind v ≢ ENUM → branch_of v ≡ unbranched
 unbranched-of (scalar k b) h = refl
 unbranched-of (text bs) h = refl
 unbranched-of unit h = refl
@@ -103,25 +103,25 @@ fewer (x ∷ xs) ys h =
     omega (arith, ap length r.2, length-append r.0 (x ∷ r.1), length-append r.0 r.1)
 
 -- A node is among the first ones no more often than among those with a record, if each that has a value has one.
-first-there : (ts : List Entry) → ((q : Path) → at q ts ≢ [] → times q (nodesOf ts) ≡ 1) → (q : Path) → times q (firsts ts) ≤ times q (nodesOf ts)
+first-there : (ts : List Entry) → ((q : Path) → at q ts ≢ [] → times q (nodes_of ts) ≡ 1) → (q : Path) → times q (firsts ts) ≤ times q (nodes_of ts)
 first-there ts h q = go (at q ts) (times-firsts q ts) (h q)
   where
-    go : (vs : List Value) → times q (firsts ts) ≡ cond (isNil vs) 0 1 → (vs ≢ [] → times q (nodesOf ts) ≡ 1) → times q (firsts ts) ≤ times q (nodesOf ts)
+    go : (vs : List Value) → times q (firsts ts) ≡ cond (is_nil vs) 0 1 → (vs ≢ [] → times q (nodes_of ts) ≡ 1) → times q (firsts ts) ≤ times q (nodes_of ts)
     go [] e k = omega arith
-    go (v ∷ vs) e k = let n : times q (nodesOf ts) ≡ 1 = k (λ z. let o : ◌≡◌ {A = ℕ} 0 1 = cc in omega arith) in omega arith
+    go (v ∷ vs) e k = let n : times q (nodes_of ts) ≡ 1 = k (λ z. let o : ◌≡◌ {A = ℕ} 0 1 = cc in omega arith) in omega arith
 
 -- The nodes that have a value are no more than those with a record, if each of them has one.
-pub firsts-few : (ts : List Entry) → ((q : Path) → at q ts ≢ [] → times q (nodesOf ts) ≡ 1) → length (firsts ts) ≤ length (nodesOf ts)
-firsts-few ts h = fewer (firsts ts) (nodesOf ts) (first-there ts h)
+pub firsts-few : (ts : List Entry) → ((q : Path) → at q ts ≢ [] → times q (nodes_of ts) ≡ 1) → length (firsts ts) ≤ length (nodes_of ts)
+firsts-few ts h = fewer (firsts ts) (nodes_of ts) (first-there ts h)
 
 -- They are fewer if some node with a record has no value.
-pub firsts-fewer : (ts : List Entry) → ((q : Path) → at q ts ≢ [] → times q (nodesOf ts) ≡ 1) → (q : Path) → times q (nodesOf ts) ≡ 1 → at q ts ≡ [] → length (firsts ts) < length (nodesOf ts)
-firsts-fewer ts h q one empty = fewer (q ∷ firsts ts) (nodesOf ts) (λ r. go r (same r q) refl (first-there ts h r))
+pub firsts-fewer : (ts : List Entry) → ((q : Path) → at q ts ≢ [] → times q (nodes_of ts) ≡ 1) → (q : Path) → times q (nodes_of ts) ≡ 1 → at q ts ≡ [] → length (firsts ts) < length (nodes_of ts)
+firsts-fewer ts h q one empty = fewer (q ∷ firsts ts) (nodes_of ts) (λ r. go r (same r q) refl (first-there ts h r))
   where
-    go : (r : Path) (b : Bool) → same r q ≡ b → times r (firsts ts) ≤ times r (nodesOf ts) → cond b 1 0 + times r (firsts ts) ≤ times r (nodesOf ts)
+    go : (r : Path) (b : Bool) → same r q ≡ b → times r (firsts ts) ≤ times r (nodes_of ts) → cond b 1 0 + times r (firsts ts) ≤ times r (nodes_of ts)
     go r true e k =
-        let none : times q (firsts ts) ≡ 0 = times-firsts q ts ∙ ap (λ vs. cond {A = ℕ} (isNil vs) 0 1) empty in
-        subst (λ (o : Path). 1 + times o (firsts ts) ≤ times o (nodesOf ts)) (sym (same_true r q e)) (omega arith)
+        let none : times q (firsts ts) ≡ 0 = times-firsts q ts ∙ ap (λ vs. cond {A = ℕ} (is_nil vs) 0 1) empty in
+        subst (λ (o : Path). 1 + times o (firsts ts) ≤ times o (nodes_of ts)) (sym (same_true r q e)) (omega arith)
     go r false e k = omega arith
 
 -- What stands at a place of a list stands in it.

@@ -9,10 +9,10 @@ use Rattle.document.specs.Columns.{columns}
 use Rattle.document.specs.Calls.{str, Kind, SCALAR, TEXT, SEQ, MAP, ENUM, UNIT, TUPLE, Value, scalar, text, unit, none, some, variant, seq, map, tuple, kind, cell, total, Call, val, end, extent}
 use Rattle.document.specs.Entries.{Entry, entry, at, leaves}
 use Rattle.document.specs.Nodes.{Path, root, ◌▹◌, Step, alt, same, demand, demands}
-use Rattle.document.specs.Places.{Place, only, Next, nowhere, there, next, full, opens, settle, stays, goes, tooMany, tell, start, Complete, Onward}
-use Rattle.document.specs.Reader.{Store, rooted, opened, withChild, taken, letterCount, recorded, child, fresh, ready, put, found, look, oversized, respond, consult, opening, tupled, standing, scalar?, text?, option?, variant?, seq?, map?, reply, Reply, refuse, reading, begin, unread}
+use Rattle.document.specs.Places.{Place, only, Next, nowhere, there, next, full, opens, settle, stays, goes, too_many, tell, start, Complete, Onward}
+use Rattle.document.specs.Reader.{Store, rooted, opened, with_child, taken, letter_count, recorded, child, fresh, ready, put, found, look, oversized, respond, consult, opening, tupled, standing, scalar?, text?, option?, variant?, seq?, map?, reply, Reply, refuse, reading, begin, unread}
 use Rattle.document.specs.Replay.{replay, heard, going, also, hearing}
-use Rattle.document.specs.Tables.{cells, takes, unbranched, branch, branchOf, withBranch, branches, recordsOf, cells_of, usableNodes, usableCells}
+use Rattle.document.specs.Tables.{cells, takes, unbranched, branch, branch_of, with_branch, branches, records_of, cells_of, usable_nodes, usable_cells}
 use Rattle.document.specs.Theorems.{Asked}
 use Rattle.document.specs.Trace.{gathered, trace}
 use Rattle.document.specs.Verdict.{Sizes}
@@ -24,8 +24,8 @@ use Rattle.std.specs.List.{AllByRecursion}
 use Rattle.document.proofs.Paths.{same_self, at-append, all_append}
 use Rattle.document.proofs.Count.{owes, due, Owing, next-owed, Balanced, turn-balanced, due-append, due-none, counted, counted-root}
 use Rattle.document.proofs.Texts.{Stands, texts-new, seen-touched, standing_on, standing-unit}
-use Rattle.document.proofs.Between.{input-new, at_here, unit_kind, touched, origin, nodesAt, unseen, remaining, Whole, whole-on, look-new, nodes-new, look-seen, nodes-seen, nodes-unit, remaining-unit, remaining-seen, whole-first, isNil}
-use Rattle.document.proofs.Taking.{has, has-whole, slotsLeft, recordsLeft, slots-step, records-step, branches-same, branches-credit, cells-by-node}
+use Rattle.document.proofs.Between.{input-new, at_here, unit_kind, touched, origin, nodes_at, unseen, remaining, Whole, whole-on, look-new, nodes-new, look-seen, nodes-seen, nodes-unit, remaining-unit, remaining-seen, whole-first, is_nil}
+use Rattle.document.proofs.Taking.{has, has-whole, slots_left, records_left, slots-step, records-step, branches-same, branches-credit, cells-by-node}
 
 -- what holds of all entries
 record Facts (ts : List Entry) : Type 0 where
@@ -36,13 +36,13 @@ record Facts (ts : List Entry) : Type 0 where
 -- the reader's state between two calls
 record Kept (input after : List ℕ) (col : Meaning) (ts ps es : List Entry) (st : Store) : Type 0 where
   whole : Whole ts ps es
-  nodes : (q : Path) → st.nodes q ≡ nodesAt ts ps es q
+  nodes : (q : Path) → st.nodes q ≡ nodes_at ts ps es q
   rooted : st.rooted ≡ true
   left : st.input ≡ remaining col ts ps es ++ after
   tail : drop st.place input ≡ st.input
   standing : (q : Path) → touched (at q ps) ≡ true → Stands input (st.texts q) (each cell (at q es))
-  slots-do : slotsLeft ts ps es ≤ st.slots
-  records-do : recordsLeft ts ps es st.made ≤ st.records
+  slots-do : slots_left ts ps es ≤ st.slots
+  records-do : records_left ts ps es st.made ≤ st.records
 
 -- the node at which the next value stands has its count, if it is still to be read, and its children are still to be reached
 record Ready (ts ps : List Entry) (p : Path) : Type 0 where
@@ -55,16 +55,16 @@ kinds-of ts ps es facts whole q = rw (← (whole q)) (facts.sound q).one-kind
 -- the state once a node's cell has been taken, before a child of it may take a record
 record Partly (input after : List ℕ) (col : Meaning) (ts ps es : List Entry) (p : Path) (v : Value) (st : Store) : Type 0 where
   whole : Whole ts (ps ++ entry p v ∷ []) es
-  nodes : (q : Path) → put p (ready (kind v) (each cell (at p es))) st.nodes q ≡ nodesAt ts (ps ++ entry p v ∷ []) es q
+  nodes : (q : Path) → put p (ready (kind v) (each cell (at p es))) st.nodes q ≡ nodes_at ts (ps ++ entry p v ∷ []) es q
   rooted : st.rooted ≡ true
   left : st.input ≡ remaining col ts (ps ++ entry p v ∷ []) es ++ after
   tail : drop st.place input ≡ st.input
-  here : take (letterCount (cell v)) (drop (st.texts p) input) ≡ str (cell v)
-  standing : (q : Path) → touched (at q (ps ++ entry p v ∷ [])) ≡ true → Stands input (put p (st.texts p + letterCount (cell v)) st.texts q) (each cell (at q es))
-  slots-do : slotsLeft ts (ps ++ entry p v ∷ []) es ≤ st.slots
+  here : take (letter_count (cell v)) (drop (st.texts p) input) ≡ str (cell v)
+  standing : (q : Path) → touched (at q (ps ++ entry p v ∷ [])) ≡ true → Stands input (put p (st.texts p + letter_count (cell v)) st.texts q) (each cell (at q es))
+  slots-do : slots_left ts (ps ++ entry p v ∷ []) es ≤ st.slots
   credit : (nk : Path → Bool) → ((q : Path) → same p q ≡ false → (i : ℕ) → nk (q ▹ alt i) ≡ st.made (q ▹ alt i))
       → branches (λ i. nk (p ▹ alt i)) (at p es) ≤ branches (λ i. st.made (p ▹ alt i)) (v ∷ at p es)
-      → recordsLeft ts (ps ++ entry p v ∷ []) es nk + branches (λ i. st.made (p ▹ alt i)) (v ∷ at p es) ≤ branches (λ i. nk (p ▹ alt i)) (at p es) + st.records
+      → records_left ts (ps ++ entry p v ∷ []) es nk + branches (λ i. st.made (p ▹ alt i)) (v ∷ at p es) ≤ branches (λ i. nk (p ▹ alt i)) (at p es) + st.records
 
 Touched : (input after : List ℕ) → Meaning → (ts ps es : List Entry) (p : Path) (v : Value) (st : Store) → Type 0
 Touched input after col ts ps es p v st = (su : Store) × (look col p (kind v) st ≡ found (cell v ∷ each cell (at p es)) su) × Partly input after col ts ps es p v su
@@ -80,12 +80,12 @@ touch input after col law ts ps es p v st facts kept ready' f = go (at p ps) ref
     member : has p (firsts ts) ≡ true
     member = has-whole ts ps es p v (kept.whole p)
 
-    slots : slotsLeft ts (ps ++ entry p v ∷ []) es + cond (unseen ps p) (total cells (v ∷ at p es)) 0 ≤ st.slots
+    slots : slots_left ts (ps ++ entry p v ∷ []) es + cond (unseen ps p) (total cells (v ∷ at p es)) 0 ≤ st.slots
     slots = omega (arith, slots-step ts ps es p v member, kept.slots-do)
 
     records : (nk : Path → Bool) → ((q : Path) → same p q ≡ false → (i : ℕ) → nk (q ▹ alt i) ≡ st.made (q ▹ alt i))
         → branches (λ i. nk (p ▹ alt i)) (at p es) ≤ branches (λ i. st.made (p ▹ alt i)) (v ∷ at p es)
-        → recordsLeft ts (ps ++ entry p v ∷ []) es nk + cond (unseen ps p) (takes (kind v)) 0 + branches (λ i. st.made (p ▹ alt i)) (v ∷ at p es)
+        → records_left ts (ps ++ entry p v ∷ []) es nk + cond (unseen ps p) (takes (kind v)) 0 + branches (λ i. st.made (p ▹ alt i)) (v ∷ at p es)
         ≤ branches (λ i. nk (p ▹ alt i)) (at p es) + st.records
     records nk off less = omega (arith, records-step ts ps es p v st.made nk member off less, kept.records-do)
 
@@ -93,18 +93,18 @@ touch input after col law ts ps es p v st facts kept ready' f = go (at p ps) ref
     go [] e =
         let n : st.nodes p ≡ fresh (length (at p ts)) = kept.nodes p ∙ rw e (ap fresh (ready'.count e)) in
         let w : at p ts ≡ v ∷ at p es = whole-first ts ps es p v kept.whole e in
-        let u : unseen ps p ≡ true = ap isNil e in
-        let s : slotsLeft ts (ps ++ entry p v ∷ []) es + total cells (at p ts) ≤ st.slots = rw w (rw u at slots) in
+        let u : unseen ps p ≡ true = ap is_nil e in
+        let s : slots_left ts (ps ++ entry p v ∷ []) es + total cells (at p ts) ≤ st.slots = rw w (rw u at slots) in
         let r : takes (kind v) ≤ st.records =
-        omega (arith, rw u at (records st.made (λ q o i. refl) (branches-credit (λ i. st.made (p ▹ alt i)) (branchOf v) (at p es))), branches-credit (λ i. st.made (p ▹ alt i)) (branchOf v) (at p es)) in
+        omega (arith, rw u at (records st.made (λ q o i. refl) (branches-credit (λ i. st.made (p ▹ alt i)) (branch_of v) (at p es))), branches-credit (λ i. st.made (p ▹ alt i)) (branch_of v) (at p es)) in
         let rest : List ℕ = remaining col ts (ps ++ entry p v ∷ []) es ++ after in
         let su : Store = opened p (kind v) (each cell (at p ts)) (supply (st.slots - total cells (at p ts)) rest) st in
         let in' : st.input ≡ columns col (kind v) (each cell (at p ts)) ++ rest = kept.left ∙ input-new col ts ps es p v after kept.whole e in
         let text = texts-new col input (kind v) (at p ts) rest st.place (rw w (refl, (rw w at (facts.sound p)).one-kind)) (kept.tail ∙ in') in
-        let place : su.texts p ≡ st.place + (length st.input - length rest) - total letterCount (each cell (at p ts)) = rw (same_self p) refl in
+        let place : su.texts p ≡ st.place + (length st.input - length rest) - total letter_count (each cell (at p ts)) = rw (same_self p) refl in
         let size : length st.input - length rest ≡ length (columns col (kind v) (each cell (at p ts))) = omega (arith, ap length in', length-append (columns col (kind v) (each cell (at p ts))) rest) in
         let stand : Stands input (su.texts p) (cell v ∷ each cell (at p es)) =
-        rw (place, size) (subst (λ (xs : List Value). Stands input (st.place + length (columns col (kind v) (each cell (at p ts))) - total letterCount (each cell (at p ts))) (each cell xs)) w text.0) in (
+        rw (place, size) (subst (λ (xs : List Value). Stands input (st.place + length (columns col (kind v) (each cell (at p ts))) - total letter_count (each cell (at p ts))) (each cell xs)) w text.0) in (
           su,
           look-new col law ts ps es p v st after (facts.sound p) kept.whole e n kept.left r (omega arith),
           record {
@@ -114,13 +114,13 @@ touch input after col law ts ps es p v st facts kept ready' f = go (at p ps) ref
             left = refl;
             tail = rw size text.1;
             here = stand.0;
-            standing = standing_on input ps es p v st.texts su.texts (su.texts p + letterCount (cell v)) (λ q o. rw o refl) kept.standing stand.1;
+            standing = standing_on input ps es p v st.texts su.texts (su.texts p + letter_count (cell v)) (λ q o. rw o refl) kept.standing stand.1;
             slots-do = omega arith;
             credit = λ nk off less. omega (arith, r, rw u at (records nk off less));
           },
         )
     go (x ∷ xs) e =
-        let u : unseen ps p ≡ false = ap isNil e in
+        let u : unseen ps p ≡ false = ap is_nil e in
         let t : touched (at p ps) ≡ true = rw e (seen-touched x v xs (at p es) f (rw e at kinds)) in
         let stand : Stands input (st.texts p) (cell v ∷ each cell (at p es)) = subst (λ (ys : List Value). Stands input (st.texts p) (each cell ys)) (at_here p v es) (kept.standing p t) in (
           st,
@@ -132,7 +132,7 @@ touch input after col law ts ps es p v st facts kept ready' f = go (at p ps) ref
             left = kept.left ∙ ap (λ l. l ++ after) (remaining-seen col ts ps es p v x xs e);
             tail = kept.tail;
             here = stand.0;
-            standing = standing_on input ps es p v st.texts st.texts (st.texts p + letterCount (cell v)) (λ q o. refl) kept.standing stand.1;
+            standing = standing_on input ps es p v st.texts st.texts (st.texts p + letter_count (cell v)) (λ q o. refl) kept.standing stand.1;
             slots-do = omega (arith, slots);
             credit = λ nk off less. omega (arith, rw u at (records nk off less));
           },
@@ -142,7 +142,7 @@ touch input after col law ts ps es p v st facts kept ready' f = go (at p ps) ref
 kept-plain : (input after : List ℕ) (col : Meaning) (ts ps es : List Entry) (p : Path) (v : Value) (st : Store) → Partly input after col ts ps es p v st
     → Kept input after col ts (ps ++ entry p v ∷ []) es (taken p (kind v) (cell v) (each cell (at p es)) st)
 kept-plain input after col ts ps es p v st t =
-    let k : branches (λ i. st.made (p ▹ alt i)) (at p es) ≤ branches (λ i. st.made (p ▹ alt i)) (v ∷ at p es) = branches-credit (λ i. st.made (p ▹ alt i)) (branchOf v) (at p es) in
+    let k : branches (λ i. st.made (p ▹ alt i)) (at p es) ≤ branches (λ i. st.made (p ▹ alt i)) (v ∷ at p es) = branches-credit (λ i. st.made (p ▹ alt i)) (branch_of v) (at p es) in
     record {
       whole = t.whole;
       nodes = t.nodes;
@@ -160,7 +160,7 @@ Recorded input after col ts ps es p v fs st i =
     × Kept input after col ts (ps ++ entry p v ∷ []) es su
 
 -- a child takes one if it is new
-kept-branch : (input after : List ℕ) (col : Meaning) (ts ps es : List Entry) (p : Path) (v : Value) (fs : List Place) (st : Store) (i : ℕ) → branchOf v ≡ branch i → Partly input after col ts ps es p v st
+kept-branch : (input after : List ℕ) (col : Meaning) (ts ps es : List Entry) (p : Path) (v : Value) (fs : List Place) (st : Store) (i : ℕ) → branch_of v ≡ branch i → Partly input after col ts ps es p v st
     → Recorded input after col ts ps es p v fs st i
 unfolding Recorded
 kept-branch input after col ts ps es p v fs st i k t = go (st.made (p ▹ alt i)) refl
@@ -168,19 +168,19 @@ kept-branch input after col ts ps es p v fs st i k t = go (st.made (p ▹ alt i)
     off : (q : Path) → same p q ≡ false → (j : ℕ) → put (p ▹ alt i) true st.made (q ▹ alt j) ≡ st.made (q ▹ alt j)
     off q e j = rw e refl
 
-    on : (j : ℕ) → put (p ▹ alt i) true st.made (p ▹ alt j) ≡ withBranch (λ m. st.made (p ▹ alt m)) (branch i) j
+    on : (j : ℕ) → put (p ▹ alt i) true st.made (p ▹ alt j) ≡ with_branch (λ m. st.made (p ▹ alt m)) (branch i) j
     on j = rw (same_self p) refl
 
-    after-branch : branches (λ j. put (p ▹ alt i) true st.made (p ▹ alt j)) (at p es) ≡ branches (withBranch (λ m. st.made (p ▹ alt m)) (branch i)) (at p es)
-    after-branch = branches-same (λ j. put (p ▹ alt i) true st.made (p ▹ alt j)) (withBranch (λ m. st.made (p ▹ alt m)) (branch i)) on (at p es)
+    after-branch : branches (λ j. put (p ▹ alt i) true st.made (p ▹ alt j)) (at p es) ≡ branches (with_branch (λ m. st.made (p ▹ alt m)) (branch i)) (at p es)
+    after-branch = branches-same (λ j. put (p ▹ alt i) true st.made (p ▹ alt j)) (with_branch (λ m. st.made (p ▹ alt m)) (branch i)) on (at p es)
 
     go : (b : Bool) → st.made (p ▹ alt i) ≡ b → Recorded input after col ts ps es p v fs st i
     go true e = (taken p (kind v) (cell v) (each cell (at p es)) st, rw e refl, kept-plain input after col ts ps es p v st t)
     go false e =
-        let one : branches (λ j. st.made (p ▹ alt j)) (v ∷ at p es) ≡ 1 + branches (withBranch (λ m. st.made (p ▹ alt m)) (branch i)) (at p es) = rw (k, e) refl in
-        let room : recordsLeft ts (ps ++ entry p v ∷ []) es (put (p ▹ alt i) true st.made) + 1 ≤ st.records =
+        let one : branches (λ j. st.made (p ▹ alt j)) (v ∷ at p es) ≡ 1 + branches (with_branch (λ m. st.made (p ▹ alt m)) (branch i)) (at p es) = rw (k, e) refl in
+        let room : records_left ts (ps ++ entry p v ∷ []) es (put (p ▹ alt i) true st.made) + 1 ≤ st.records =
         omega (arith, one, after-branch, t.credit (put (p ▹ alt i) true st.made) off (omega (arith, one, after-branch))) in (
-          withChild (p ▹ alt i) (taken p (kind v) (cell v) (each cell (at p es)) st),
+          with_child (p ▹ alt i) (taken p (kind v) (cell v) (each cell (at p es)) st),
           rw (e, le-leb 1 st.records (omega arith)) refl,
           record { whole = t.whole; nodes = t.nodes; rooted = t.rooted; left = t.left; tail = t.tail; standing = t.standing; slots-do = t.slots-do; records-do = omega arith },
         )
@@ -210,19 +210,19 @@ light true n h = le-ltb 65536 n (h tt)
 light false n h = refl
 
 -- the answer to a value's question, once it is known where the value stands
-atNode : Meaning → Store → Path → List Place → Bool → Value → Reply
-atNode col st p fs flag (scalar k b) = rooted st (consult col st p fs (scalar? k))
-atNode col st p fs flag (text bs) = rooted st (consult col st p fs text?)
-atNode col st p fs flag unit = rooted st (reply (val unit) 0 (reading (settle fs) st))
-atNode col st p fs flag none = rooted st (consult col st p fs option?)
-atNode col st p fs flag some = rooted st (consult col st p fs option?)
-atNode col st p fs flag (variant i) = opening fs (rooted st (consult col st p fs variant?))
-atNode col st p fs flag (seq n) = opening fs (rooted st (consult col st p fs (seq? flag)))
-atNode col st p fs flag (map n) = opening fs (rooted st (consult col st p fs (map? flag)))
-atNode col st p fs flag (tuple n) = opening fs (rooted st (tupled col st p fs n))
+at_node : Meaning → Store → Path → List Place → Bool → Value → Reply
+at_node col st p fs flag (scalar k b) = rooted st (consult col st p fs (scalar? k))
+at_node col st p fs flag (text bs) = rooted st (consult col st p fs text?)
+at_node col st p fs flag unit = rooted st (reply (val unit) 0 (reading (settle fs) st))
+at_node col st p fs flag none = rooted st (consult col st p fs option?)
+at_node col st p fs flag some = rooted st (consult col st p fs option?)
+at_node col st p fs flag (variant i) = opening fs (rooted st (consult col st p fs variant?))
+at_node col st p fs flag (seq n) = opening fs (rooted st (consult col st p fs (seq? flag)))
+at_node col st p fs flag (map n) = opening fs (rooted st (consult col st p fs (map? flag)))
+at_node col st p fs flag (tuple n) = opening fs (rooted st (tupled col st p fs n))
 
-answer-value : (col : Meaning) (st : Store) (f : Place) (fs : List Place) (flag : Bool) (v : Value) → respond col st f fs (asked flag (val v)) ≡ standing (next f) (λ p g. atNode col st p (g ∷ fs) flag v)
-unfolding atNode
+answer-value : (col : Meaning) (st : Store) (f : Place) (fs : List Place) (flag : Bool) (v : Value) → respond col st f fs (asked flag (val v)) ≡ standing (next f) (λ p g. at_node col st p (g ∷ fs) flag v)
+unfolding at_node
 answer-value col st f fs flag (scalar k b) = refl
 answer-value col st f fs flag (text bs) = refl
 answer-value col st f fs flag unit = refl
@@ -235,7 +235,7 @@ answer-value col st f fs flag (tuple n) = refl
 
 Answered : (input after : List ℕ) → Meaning → (ts ps es : List Entry) (p : Path) (v : Value) (st : Store) (fs : List Place) (flag : Bool) → Type 0
 Answered input after col ts ps es p v st fs flag =
-    (su : Store) × (k : ℕ) × (atNode col st p fs flag v ≡ reply (val v) k (reading (settle (opens p v ++ fs)) su))
+    (su : Store) × (k : ℕ) × (at_node col st p fs flag v ≡ reply (val v) k (reading (settle (opens p v ++ fs)) su))
     × (hearing input (val v) k ≡ val v) × Kept input after col ts (ps ++ leaves p v) es su
 
 -- the root has its record
@@ -244,8 +244,8 @@ is-rooted st r e = cond-true st.rooted r _ e
 
 -- a value call's question gets its value
 answered : (input after : List ℕ) (col : Meaning) (law : Lawful col) (ts ps es : List Entry) (p : Path) (v : Value) (st : Store) (fs : List Place) (flag : Bool)
-    → Facts ts → Kept input after col ts ps (leaves p v ++ es) st → Ready ts ps p → (T flag → extent v ≤ 65536) → tooMany (length (opens p v ++ fs)) ≡ false → Answered input after col ts ps es p v st fs flag
-unfolding Answered Touched Recorded atNode
+    → Facts ts → Kept input after col ts ps (leaves p v ++ es) st → Ready ts ps p → (T flag → extent v ≤ 65536) → too_many (length (opens p v ++ fs)) ≡ false → Answered input after col ts ps es p v st fs flag
+unfolding Answered Touched Recorded at_node
 answered input after col law ts ps es p (scalar k b) st fs flag facts kept r h d =
     let t : Touched input after col ts ps es p (scalar k b) st = touch input after col law ts ps es p (scalar k b) st facts kept r refl in
     (_, t.0.texts p, is-rooted st _ kept.rooted ∙ rw (t.1, d) refl, refl, kept-plain input after col ts ps es p (scalar k b) t.0 t.2)
@@ -356,20 +356,20 @@ replay-value : (input after : List ℕ) → (col : Meaning) (law : Lawful col) (
     → ((o : Path) → Owing o f n) → ((o : Path) → Balanced o (f ∷ fs) (tell v fs n))
     → Onward (tell v fs n) (λ gs. Complete gs cs)
     → Balance ps (f ∷ fs) → Kept input after col ts ps (gathered (tell v fs n) (λ gs. trace gs cs)) st → (T flag → extent v ≤ 65536) → Asked qs cs
-    → going input (standing n (λ p g. atNode col st p (g ∷ fs) flag v)) (λ s. replay col input s qs) ≡ heard (val v ∷ cs) after
+    → going input (standing n (λ p g. at_node col st p (g ∷ fs) flag v)) (λ s. replay col input s qs) ≡ heard (val v ∷ cs) after
 unfolding Replaying Answered
 replay-value input after col law ts cs facts ih v f fs ps st flag qs nowhere owing turned whole bal kept small asks' = absurd whole
 replay-value input after col law ts cs facts ih v f fs ps st flag qs (there p g) owing turned whole bal kept small asks' =
-    go (tooMany (length (opens p v ++ g ∷ fs))) refl turned whole kept
+    go (too_many (length (opens p v ++ g ∷ fs))) refl turned whole kept
   where
     owe : 0 < owes (f ∷ fs) p
     owe = omega (arith, owing p, ap (λ b. cond {A = ℕ} b 1 0) (same_self p))
 
-    go : (b : Bool) → tooMany (length (opens p v ++ g ∷ fs)) ≡ b
+    go : (b : Bool) → too_many (length (opens p v ++ g ∷ fs)) ≡ b
         → ((o : Path) → Balanced o (f ∷ fs) (cond b (stays Depth) (goes (leaves p v) (settle (opens p v ++ g ∷ fs)))))
         → Onward (cond b (stays Depth) (goes (leaves p v) (settle (opens p v ++ g ∷ fs)))) (λ hs. Complete hs cs)
         → Kept input after col ts ps (gathered (cond b (stays Depth) (goes (leaves p v) (settle (opens p v ++ g ∷ fs)))) (λ hs. trace hs cs)) st
-        → going input (atNode col st p (g ∷ fs) flag v) (λ s. replay col input s qs) ≡ heard (val v ∷ cs) after
+        → going input (at_node col st p (g ∷ fs) flag v) (λ s. replay col input s qs) ≡ heard (val v ∷ cs) after
     go true d turned' whole' kept' = absurd whole'
     go false d turned' whole' kept' =
         let r : Ready ts ps p = ready_at ts ps (leaves p v ++ trace (settle (opens p v ++ g ∷ fs)) cs) p (f ∷ fs) facts kept'.whole bal owe in
@@ -394,7 +394,7 @@ keep_all : (qs : List Path) → keep (unseen []) qs ≡ qs
 keep_all [] = refl
 keep_all (q ∷ qs) = ap (λ l. q ∷ l) (keep_all qs)
 
-unread-is : (ts : List Entry) (q : Path) → unread q ≡ nodesAt ts [] ts q
+unread-is : (ts : List Entry) (q : Path) → unread q ≡ nodes_at ts [] ts q
 unread-is ts root = refl
 unread-is ts (r ▹ s) = refl
 
@@ -402,13 +402,13 @@ unread-is ts (r ▹ s) = refl
 abbrev fresh-store : ℕ → ℕ → List ℕ → Store
 fresh-store nodes slots bs = (begin nodes slots bs).store
 
-kept-first : (after : List ℕ) (col : Meaning) (ts : List Entry) (nodes slots : ℕ) → 1 + recordsOf ts ≤ usableNodes nodes → cells_of ts ≤ usableCells slots
+kept-first : (after : List ℕ) (col : Meaning) (ts : List Entry) (nodes slots : ℕ) → 1 + records_of ts ≤ usable_nodes nodes → cells_of ts ≤ usable_cells slots
     → Kept (bytes_of col ts ++ after) after col ts [] ts (fresh-store nodes slots (bytes_of col ts ++ after))
 kept-first after col ts nodes slots h k =
     record {
       whole = λ q. refl;
       nodes = unread-is ts;
-      rooted = le-leb 1 (usableNodes nodes) (omega arith);
+      rooted = le-leb 1 (usable_nodes nodes) (omega arith);
       left = rw (keep_all (firsts ts)) refl;
       tail = refl;
       standing = λ q t. absurd (false≢true t);

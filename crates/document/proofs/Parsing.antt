@@ -6,7 +6,7 @@ use Rattle.document.specs.declared.refusals.Refusal.TheVariants.{Count, Depth}
 use Rattle.document.specs.Calls.{Value, scalar, text, unit, none, some, variant, seq, map, tuple, Call, val, end}
 use Rattle.document.specs.Nodes.{Path, root, ◌▹◌, elem, key, value, field, alt}
 use Rattle.document.specs.Entries.{Entry, leaves}
-use Rattle.document.specs.Places.{Place, items, keys, vals, fields, lone, only, closing, Next, nowhere, there, next, full, opens, settle, tooMany, Turn, stays, goes, tell, turn, start, Onward, Complete, Runs}
+use Rattle.document.specs.Places.{Place, items, keys, vals, fields, lone, only, closing, Next, nowhere, there, next, full, opens, settle, too_many, Turn, stays, goes, tell, turn, start, Onward, Complete, Runs}
 use Rattle.document.specs.Grammar.{Following, nothing, one, enclosed, follows, Values, no_more, plain, leads, encloses, Document}
 use Rattle.document.specs.Theorems.{Grammatical}
 
@@ -77,8 +77,8 @@ opened p (tuple (suc zero)) = (lone p 1, refl, refl, refl)
 opened p (tuple (suc (suc n))) = (fields p 0 (suc (suc n)), refl, refl, refl)
 
 -- places that a value leads to are taken if they are not too many, and only then
-taken : (es : List Entry) (gs : List Place) (P : List Place → Type 0) → Onward (cond (tooMany (length gs)) (stays Depth) (goes es (settle gs))) P ↔ ((length gs ≤ 33) × P (settle gs))
-taken es gs P = cond_both (tooMany (length gs)) (stays Depth) (goes es (settle gs)) (λ t. Onward t P ↔ ((length gs ≤ 33) × P (settle gs)))
+taken : (es : List Entry) (gs : List Place) (P : List Place → Type 0) → Onward (cond (too_many (length gs)) (stays Depth) (goes es (settle gs))) P ↔ ((length gs ≤ 33) × P (settle gs))
+taken es gs P = cond_both (too_many (length gs)) (stays Depth) (goes es (settle gs)) (λ t. Onward t P ↔ ((length gs ≤ 33) × P (settle gs)))
     (λ e. (λ k. absurd k, λ h. absurd (omega (arith, ltb-true 33 (length gs) e, h.0))))
     (λ e. (λ k. (ltb-false 33 (length gs) e, k), λ h. h.1))
 

@@ -9,9 +9,9 @@ use Rattle.column.specs.Widths.{listed, Below}
 use Rattle.document.proofs.Sound.{Fits}
 use Rattle.utf8.specs.Passes.{passes}
 use Rattle.document.specs.Calls.{width, total, Kind, SCALAR, TEXT, SEQ, MAP, ENUM, UNIT, TUPLE, Cell, number, letters, num, str, Value, scalar, text, unit, none, some, variant, seq, map, tuple, kind, cell, extent}
-use Rattle.document.specs.Columns.{short, longs, sum, limit, joined, lengthBytes, columns}
-use Rattle.document.specs.Fetch.{supply, parted, fetched, and_then, numbers, beyond, merged, limited, lengths, cut, allPass, tested, texts, asNumbers, asLetters, fetch}
-use Rattle.document.specs.Tables.{cells, lengthCells}
+use Rattle.document.specs.Columns.{short, longs, sum, limit, joined, length_bytes, columns}
+use Rattle.document.specs.Fetch.{supply, parted, fetched, and_then, numbers, beyond, merged, limited, lengths, cut, all_pass, tested, texts, as_numbers, as_letters, fetch}
+use Rattle.document.specs.Tables.{cells, length_cells}
 use Rattle.document.specs.declared.scalars.Scalar.{Scalar}
 use Rattle.document.specs.declared.scalars.Scalar.TheVariants.{Bool as Bit, U8, U16, U32, U64, I8, I16, I32, I64, F32}
 use Rattle.std.specs.List.{AllByRecursion}
@@ -42,9 +42,9 @@ merged-back [] = refl
 merged-back (n ∷ ns) = let h = merged-back ns in grind (arith, nat_tests)
 
 lengths-back : (col : Meaning) (law : Lawful col) (column : ℕ) (ns bs : List ℕ) (k : ℕ) → sum ns < limit → length ns + length (longs ns) ≤ k
-    → lengths col column (length ns) (supply k (lengthBytes col ns ++ bs)) ≡ fetched ns (supply (k - (length ns + length (longs ns))) bs)
+    → lengths col column (length ns) (supply k (length_bytes col ns ++ bs)) ≡ fetched ns (supply (k - (length ns + length (longs ns))) bs)
 lengths-back col law column ns bs k h room =
-    let e₁ : numbers col column 8 (length ns) (supply k (lengthBytes col ns ++ bs)) ≡ fetched (each short ns) (supply (k - length ns) (col.image 64 (longs ns) ++ bs)) =
+    let e₁ : numbers col column 8 (length ns) (supply k (length_bytes col ns ++ bs)) ≡ fetched (each short ns) (supply (k - length ns) (col.image 64 (longs ns) ++ bs)) =
     rw (append_assoc, ← (length-map ns short)) (numbers-back col law column 8 (each short ns) (col.image 64 (longs ns) ++ bs) k refl (shorts-below ns) (omega (arith, length-map ns short))) in
     let e₂ : numbers col (suc column) 64 (beyond (each short ns)) (supply (k - length ns) (col.image 64 (longs ns) ++ bs)) ≡ fetched (longs ns) (supply (k - length ns - length (longs ns)) bs) =
     rw (beyond-is ns) (numbers-back col law (suc column) 64 (longs ns) bs (k - length ns) refl (longs-below ns h) (omega arith)) in
@@ -61,13 +61,13 @@ cut-back [] bs = refl
 cut-back (t ∷ ts) bs =
     rw (append_assoc, take_at t (joined ts ++ bs) (length t) refl, drop_at t (joined ts ++ bs) (length t) refl, cut-back ts bs) refl
 
-texts-back : (col : Meaning) (law : Lawful col) (column : ℕ) (ts : List (List ℕ)) (bs : List ℕ) (k : ℕ) → sum (each length ts) < limit → allPass ts ≡ true
+texts-back : (col : Meaning) (law : Lawful col) (column : ℕ) (ts : List (List ℕ)) (bs : List ℕ) (k : ℕ) → sum (each length ts) < limit → all_pass ts ≡ true
     → length (each length ts) + length (longs (each length ts)) ≤ k
-    → texts col column (length ts) (supply k ((lengthBytes col (each length ts) ++ joined ts) ++ bs)) ≡ fetched ts (supply (k - (length (each length ts) + length (longs (each length ts)))) bs)
+    → texts col column (length ts) (supply k ((length_bytes col (each length ts) ++ joined ts) ++ bs)) ≡ fetched ts (supply (k - (length (each length ts) + length (longs (each length ts)))) bs)
 texts-back col law column ts bs k h f room =
     let m : ℕ = k - (length (each length ts) + length (longs (each length ts))) in
-    let e₁ : lengths col column (length ts) (supply k ((lengthBytes col (each length ts) ++ joined ts) ++ bs)) ≡ fetched (each length ts) (supply m (joined ts ++ bs)) =
-    rw (append_assoc (lengthBytes col (each length ts)) (joined ts) bs, ← (length-map ts length)) (lengths-back col law column (each length ts) (joined ts ++ bs) k h room) in
+    let e₁ : lengths col column (length ts) (supply k ((length_bytes col (each length ts) ++ joined ts) ++ bs)) ≡ fetched (each length ts) (supply m (joined ts ++ bs)) =
+    rw (append_assoc (length_bytes col (each length ts)) (joined ts) bs, ← (length-map ts length)) (lengths-back col law column (each length ts) (joined ts ++ bs) k h room) in
     let e₂ : leb (sum (each length ts)) (length (joined ts ++ bs)) ≡ true =
     le-leb (sum (each length ts)) (length (joined ts ++ bs)) (omega (arith, sum-joined ts, length-append (joined ts) bs)) in
     let e₃ : tested (cut (each length ts) (joined ts ++ bs)) (supply m (drop (sum (each length ts)) (joined ts ++ bs))) ≡ fetched ts (supply m bs) =
@@ -76,31 +76,31 @@ texts-back col law column ts bs k h f room =
 
 -- ---- by kinds
 
-unfoldable pub isText : Kind → Bool
-isText (SCALAR k) = false
-isText TEXT = true
-isText SEQ = false
-isText MAP = false
-isText ENUM = false
-isText UNIT = false
-isText (TUPLE n) = false
+unfoldable pub is_text : Kind → Bool
+is_text (SCALAR k) = false
+is_text TEXT = true
+is_text SEQ = false
+is_text MAP = false
+is_text ENUM = false
+is_text UNIT = false
+is_text (TUPLE n) = false
 
-hasLength : Kind → Bool
-hasLength (SCALAR k) = false
-hasLength TEXT = true
-hasLength SEQ = true
-hasLength MAP = true
-hasLength ENUM = false
-hasLength UNIT = false
-hasLength (TUPLE n) = false
+has_length : Kind → Bool
+has_length (SCALAR k) = false
+has_length TEXT = true
+has_length SEQ = true
+has_length MAP = true
+has_length ENUM = false
+has_length UNIT = false
+has_length (TUPLE n) = false
 
 Of : Kind → Value → Type 0
 Of K v = kind v ≡ K
 
-as_number : (K : Kind) → isText K ≡ false → (v : Value) → kind v ≡ K → number (num (cell v)) ≡ cell v
-unfolding isText
+as_number : (K : Kind) → is_text K ≡ false → (v : Value) → kind v ≡ K → number (num (cell v)) ≡ cell v
+unfolding is_text
 as_number K f (scalar k b) e = refl
-as_number K f (text bs) e = cc (ap isText e)
+as_number K f (text bs) e = cc (ap is_text e)
 as_number K f unit e = refl
 as_number K f none e = refl
 as_number K f some e = refl
@@ -120,17 +120,17 @@ as-letters (seq n) e = cc
 as-letters (map n) e = cc
 as-letters (tuple n) e = cc
 
-as-extent : (K : Kind) → hasLength K ≡ true → (v : Value) → kind v ≡ K → num (cell v) ≡ extent v
-unfolding hasLength
-as-extent K f (scalar k b) e = cc (ap hasLength e)
+as-extent : (K : Kind) → has_length K ≡ true → (v : Value) → kind v ≡ K → num (cell v) ≡ extent v
+unfolding has_length
+as-extent K f (scalar k b) e = cc (ap has_length e)
 as-extent K f (text bs) e = refl
 as-extent K f unit e = refl
 as-extent K f none e = refl
-as-extent K f some e = cc (ap hasLength e)
-as-extent K f (variant i) e = cc (ap hasLength e)
+as-extent K f some e = cc (ap has_length e)
+as-extent K f (variant i) e = cc (ap has_length e)
 as-extent K f (seq n) e = refl
 as-extent K f (map n) e = refl
-as-extent K f (tuple n) e = cc (ap hasLength e)
+as-extent K f (tuple n) e = cc (ap has_length e)
 
 str-length : (v : Value) → kind v ≡ TEXT → length (str (cell v)) ≡ num (cell v)
 str-length (scalar k b) e = cc
@@ -220,12 +220,12 @@ unfolding nums
 nums-length [] = refl
 nums-length (v ∷ vs) = ap suc (nums-length vs)
 
-as-numbers : (K : Kind) → isText K ≡ false → (vs : List Value) → AllByRecursion (λ v. kind v ≡ K) vs → each number (nums vs) ≡ each cell vs
+as-numbers : (K : Kind) → is_text K ≡ false → (vs : List Value) → AllByRecursion (λ v. kind v ≡ K) vs → each number (nums vs) ≡ each cell vs
 unfolding nums
 as-numbers K f [] h = refl
 as-numbers K f (v ∷ vs) h = ap₂ {C = List Cell} ◌∷◌ (as_number K f v h.0) (as-numbers K f vs h.1)
 
-as-extents : (K : Kind) → hasLength K ≡ true → (vs : List Value) → AllByRecursion (λ v. kind v ≡ K) vs → sum (nums vs) ≡ total extent vs
+as-extents : (K : Kind) → has_length K ≡ true → (vs : List Value) → AllByRecursion (λ v. kind v ≡ K) vs → sum (nums vs) ≡ total extent vs
 unfolding nums
 as-extents K f [] h = refl
 as-extents K f (v ∷ vs) h = ap₂ ◌+◌ (as-extent K f v h.0) (as-extents K f vs h.1)
@@ -253,7 +253,7 @@ unfolding strs nums
 strs-lengths [] h = refl
 strs-lengths (v ∷ vs) h = ap₂ {C = List ℕ} ◌∷◌ (str-length v h.0) (strs-lengths vs h.1)
 
-strs-fine : (vs : List Value) → AllByRecursion (λ v. kind v ≡ TEXT) vs → AllByRecursion (Fits) vs → allPass (strs vs) ≡ true
+strs-fine : (vs : List Value) → AllByRecursion (λ v. kind v ≡ TEXT) vs → AllByRecursion (Fits) vs → all_pass (strs vs) ≡ true
 unfolding strs
 strs-fine [] h f = refl
 strs-fine (v ∷ vs) h f = and_from _ _ (str-fine v h.0 f.0) (strs-fine vs h.1 f.1)
@@ -272,47 +272,47 @@ as-units [] h = refl
 as-units (v ∷ vs) h = ap₂ {C = List Cell} ◌∷◌ (sym (as-unit v h.0)) (as-units vs h.1)
 
 -- the slots that they take
-plainKind : Kind → Bool
-plainKind (SCALAR k) = true
-plainKind TEXT = false
-plainKind SEQ = false
-plainKind MAP = false
-plainKind ENUM = true
-plainKind UNIT = false
-plainKind (TUPLE n) = false
+plain_kind : Kind → Bool
+plain_kind (SCALAR k) = true
+plain_kind TEXT = false
+plain_kind SEQ = false
+plain_kind MAP = false
+plain_kind ENUM = true
+plain_kind UNIT = false
+plain_kind (TUPLE n) = false
 
-one_cell : (K : Kind) → plainKind K ≡ true → (v : Value) → kind v ≡ K → cells v ≡ 1
-unfolding plainKind
+one_cell : (K : Kind) → plain_kind K ≡ true → (v : Value) → kind v ≡ K → cells v ≡ 1
+unfolding plain_kind
 one_cell K f (scalar k b) e = refl
-one_cell K f (text bs) e = cc (ap plainKind e)
-one_cell K f unit e = cc (ap plainKind e)
+one_cell K f (text bs) e = cc (ap plain_kind e)
+one_cell K f unit e = cc (ap plain_kind e)
 one_cell K f none e = refl
 one_cell K f some e = refl
 one_cell K f (variant i) e = refl
-one_cell K f (seq n) e = cc (ap plainKind e)
-one_cell K f (map n) e = cc (ap plainKind e)
-one_cell K f (tuple n) e = cc (ap plainKind e)
+one_cell K f (seq n) e = cc (ap plain_kind e)
+one_cell K f (map n) e = cc (ap plain_kind e)
+one_cell K f (tuple n) e = cc (ap plain_kind e)
 
-plain_cells : (K : Kind) → plainKind K ≡ true → (vs : List Value) → AllByRecursion (λ v. kind v ≡ K) vs → total cells vs ≡ length vs
+plain_cells : (K : Kind) → plain_kind K ≡ true → (vs : List Value) → AllByRecursion (λ v. kind v ≡ K) vs → total cells vs ≡ length vs
 plain_cells K f [] h = refl
 plain_cells K f (v ∷ vs) h = omega (arith, one_cell K f v h.0, plain_cells K f vs h.1)
 
-length-cell : (K : Kind) → hasLength K ≡ true → (v : Value) → kind v ≡ K → cells v ≡ lengthCells (num (cell v))
-unfolding hasLength
-length-cell K f (scalar k b) e = cc (ap hasLength e)
+length-cell : (K : Kind) → has_length K ≡ true → (v : Value) → kind v ≡ K → cells v ≡ length_cells (num (cell v))
+unfolding has_length
+length-cell K f (scalar k b) e = cc (ap has_length e)
 length-cell K f (text bs) e = refl
-length-cell K f unit e = cc (ap hasLength e)
+length-cell K f unit e = cc (ap has_length e)
 length-cell K f none e = refl
 length-cell K f some e = refl
-length-cell K f (variant i) e = cc (ap hasLength e)
+length-cell K f (variant i) e = cc (ap has_length e)
 length-cell K f (seq n) e = refl
 length-cell K f (map n) e = refl
-length-cell K f (tuple n) e = cc (ap hasLength e)
+length-cell K f (tuple n) e = cc (ap has_length e)
 
-longs-length : (n : ℕ) (ns : List ℕ) → suc (length ns) + length (longs (n ∷ ns)) ≡ lengthCells n + (length ns + length (longs ns))
+longs-length : (n : ℕ) (ns : List ℕ) → suc (length ns) + length (longs (n ∷ ns)) ≡ length_cells n + (length ns + length (longs ns))
 longs-length n ns = grind (arith, nat_tests)
 
-length-cells : (K : Kind) → hasLength K ≡ true → (vs : List Value) → AllByRecursion (λ v. kind v ≡ K) vs → length (nums vs) + length (longs (nums vs)) ≡ total cells vs
+length-cells : (K : Kind) → has_length K ≡ true → (vs : List Value) → AllByRecursion (λ v. kind v ≡ K) vs → length (nums vs) + length (longs (nums vs)) ≡ total cells vs
 unfolding nums
 length-cells K f [] h = refl
 length-cells K f (v ∷ vs) h = omega (arith, length-cell K f v h.0, length-cells K f vs h.1, longs-length (num (cell v)) (nums vs))
@@ -344,38 +344,38 @@ tuple-cell m (map n) e = cc
 tuple-cell m (tuple n) e = refl
 
 -- numbers and lengths of values, as cells
-values-back : (col : Meaning) (law : Lawful col) (column w : ℕ) (K : Kind) (vs : List Value) (bs : List ℕ) (k : ℕ) → isText K ≡ false → plainKind K ≡ true → listed w ≡ true
+values-back : (col : Meaning) (law : Lawful col) (column w : ℕ) (K : Kind) (vs : List Value) (bs : List ℕ) (k : ℕ) → is_text K ≡ false → plain_kind K ≡ true → listed w ≡ true
     → AllByRecursion (λ v. kind v ≡ K) vs → Below w (nums vs) → total cells vs ≤ k
-    → and_then (numbers col column w (length vs) (supply k (col.image w (nums vs) ++ bs))) asNumbers ≡ fetched (each cell vs) (supply (k - total cells vs) bs)
+    → and_then (numbers col column w (length vs) (supply k (col.image w (nums vs) ++ bs))) as_numbers ≡ fetched (each cell vs) (supply (k - total cells vs) bs)
 values-back col law column w K vs bs k f p l h b room =
     let c : total cells vs ≡ length (nums vs) = plain_cells K p vs h ∙ sym (nums-length vs) in
     let e : numbers col column w (length vs) (supply k (col.image w (nums vs) ++ bs)) ≡ fetched (nums vs) (supply (k - total cells vs) bs) =
     rw (← (nums-length vs), c) (numbers-back col law column w (nums vs) bs k l b (omega arith)) in
-    ap (λ x. and_then x asNumbers) e ∙ ap (λ cs. fetched cs (supply (k - total cells vs) bs)) (as-numbers K f vs h)
+    ap (λ x. and_then x as_numbers) e ∙ ap (λ cs. fetched cs (supply (k - total cells vs) bs)) (as-numbers K f vs h)
 
-counts-back : (col : Meaning) (law : Lawful col) (column : ℕ) (K : Kind) (vs : List Value) (bs : List ℕ) (k : ℕ) → isText K ≡ false → hasLength K ≡ true → AllByRecursion (λ v. kind v ≡ K) vs
+counts-back : (col : Meaning) (law : Lawful col) (column : ℕ) (K : Kind) (vs : List Value) (bs : List ℕ) (k : ℕ) → is_text K ≡ false → has_length K ≡ true → AllByRecursion (λ v. kind v ≡ K) vs
     → total extent vs < limit → total cells vs ≤ k
-    → and_then (lengths col column (length vs) (supply k (lengthBytes col (nums vs) ++ bs))) asNumbers ≡ fetched (each cell vs) (supply (k - total cells vs) bs)
+    → and_then (lengths col column (length vs) (supply k (length_bytes col (nums vs) ++ bs))) as_numbers ≡ fetched (each cell vs) (supply (k - total cells vs) bs)
 counts-back col law column K vs bs k f l h b room =
     let c : length (nums vs) + length (longs (nums vs)) ≡ total cells vs = length-cells K l vs h in
-    let e : lengths col column (length vs) (supply k (lengthBytes col (nums vs) ++ bs)) ≡ fetched (nums vs) (supply (k - total cells vs) bs) =
+    let e : lengths col column (length vs) (supply k (length_bytes col (nums vs) ++ bs)) ≡ fetched (nums vs) (supply (k - total cells vs) bs) =
     rw (← (nums-length vs), ← c) (lengths-back col law column (nums vs) bs k (rw (as-extents K l vs h) b) (omega arith)) in
-    ap (λ x. and_then x asNumbers) e ∙ ap (λ cs. fetched cs (supply (k - total cells vs) bs)) (as-numbers K f vs h)
+    ap (λ x. and_then x as_numbers) e ∙ ap (λ cs. fetched cs (supply (k - total cells vs) bs)) (as-numbers K f vs h)
 
 words_back : (col : Meaning) (law : Lawful col) (column : ℕ) (vs : List Value) (bs : List ℕ) (k : ℕ) → AllByRecursion (λ v. kind v ≡ TEXT) vs → AllByRecursion (Fits) vs → total extent vs < limit → total cells vs ≤ k
-    → and_then (texts col column (length vs) (supply k ((lengthBytes col (nums vs) ++ joined (strs vs)) ++ bs))) asLetters ≡ fetched (each cell vs) (supply (k - total cells vs) bs)
-unfolding hasLength
+    → and_then (texts col column (length vs) (supply k ((length_bytes col (nums vs) ++ joined (strs vs)) ++ bs))) as_letters ≡ fetched (each cell vs) (supply (k - total cells vs) bs)
+unfolding has_length
 words_back col law column vs bs k h f b room =
     let c : length (nums vs) + length (longs (nums vs)) ≡ total cells vs = length-cells TEXT refl vs h in
-    let e : texts col column (length vs) (supply k ((lengthBytes col (nums vs) ++ joined (strs vs)) ++ bs)) ≡ fetched (strs vs) (supply (k - total cells vs) bs) =
+    let e : texts col column (length vs) (supply k ((length_bytes col (nums vs) ++ joined (strs vs)) ++ bs)) ≡ fetched (strs vs) (supply (k - total cells vs) bs) =
     rw (← c, ← (strs-length vs), ← (strs-lengths vs h))
     (texts-back col law column (strs vs) bs k (rw (strs-lengths vs h, as-extents TEXT refl vs h) b) (strs-fine vs h f) (rw (strs-lengths vs h, c) room)) in
-    ap (λ x. and_then x asLetters) e ∙ ap (λ cs. fetched cs (supply (k - total cells vs) bs)) (as-texts vs h)
+    ap (λ x. and_then x as_letters) e ∙ ap (λ cs. fetched cs (supply (k - total cells vs) bs)) (as-texts vs h)
 
 -- what a node's columns hold is read back, whatever follows them
 pub fetch-back : (col : Meaning) (law : Lawful col) (column : ℕ) (K : Kind) (vs : List Value) (bs : List ℕ) (k : ℕ) → AllByRecursion (λ v. kind v ≡ K) vs → AllByRecursion (Fits) vs → total extent vs < limit → total cells vs ≤ k
     → fetch col column K (length vs) (supply k (columns col K (each cell vs) ++ bs)) ≡ fetched (each cell vs) (supply (k - total cells vs) bs)
-unfolding fetch columns isText hasLength plainKind nums strs
+unfolding fetch columns is_text has_length plain_kind nums strs
 fetch-back col law column (SCALAR j) vs bs k h f b r = values-back col law column (width j) (SCALAR j) vs bs k refl refl (width-listed j) h (scalars-below j vs h f) r
 fetch-back col law column TEXT vs bs k h f b r = words_back col law column vs bs k h f b r
 fetch-back col law column SEQ vs bs k h f b r = counts-back col law column SEQ vs bs k refl refl h b r

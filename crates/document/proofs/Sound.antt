@@ -8,7 +8,7 @@ use Rattle.document.specs.Entries.{at}
 use Rattle.document.specs.Places.{start, Complete}
 use Rattle.document.specs.Trace.{trace}
 use Rattle.document.specs.Columns.{limit}
-use Rattle.document.specs.Tables.{cells_of, recordsOf, usableNodes, usableCells}
+use Rattle.document.specs.Tables.{cells_of, records_of, usable_nodes, usable_cells}
 use Rattle.document.specs.Verdict.{Sizes}
 
 -- a value that its column can hold
@@ -37,5 +37,5 @@ pub record Sound (vs : List Value) : Type 0 where
 pub record Sane (sizes : Sizes) (cs : List Call) : Type 0 where
   pub complete : Complete start cs
   pub sound : (p : Path) → Sound (at p (trace start cs))
-  pub within-nodes : 1 + recordsOf (trace start cs) ≤ usableNodes sizes.nodes
-  pub within-cells : cells_of (trace start cs) ≤ usableCells sizes.cells
+  pub within-nodes : 1 + records_of (trace start cs) ≤ usable_nodes sizes.nodes
+  pub within-cells : cells_of (trace start cs) ≤ usable_cells sizes.cells

@@ -5,10 +5,10 @@ use Rattle.document.specs.Bytes.{others, firsts}
 use Rattle.document.specs.Calls.{Value, kind, total}
 use Rattle.document.specs.Entries.{Entry, entry, at}
 use Rattle.document.specs.Nodes.{Path, ◌▹◌, alt, same}
-use Rattle.document.specs.Tables.{cells, cells_of, takes, Branch, unbranched, branch, branchOf, newBranch, withBranch, branches, marks}
+use Rattle.document.specs.Tables.{cells, cells_of, takes, Branch, unbranched, branch, branch_of, new_branch, with_branch, branches, marks}
 use Rattle.std.specs.List.{AllByRecursion}
 use Rattle.document.proofs.Paths.{same_self, same_true}
-use Rattle.document.proofs.Between.{unseen, isNil, not-nil, at_here, at-past, at_on, at_off}
+use Rattle.document.proofs.Between.{unseen, is_nil, not-nil, at_here, at-past, at_on, at_off}
 
 -- ---- sums over nodes
 
@@ -55,17 +55,17 @@ has-firsts p (d ∷ es) v vs e = go (same d.node p) refl e (has-firsts p es v vs
 
 pub branches-same : (f g : ℕ → Bool) → ((i : ℕ) → f i ≡ g i) → (vs : List Value) → branches f vs ≡ branches g vs
 branches-same f g e [] = refl
-branches-same f g e (v ∷ vs) = ap₂ ◌+◌ (new (branchOf v)) (branches-same (withBranch f (branchOf v)) (withBranch g (branchOf v)) (with' (branchOf v)) vs)
+branches-same f g e (v ∷ vs) = ap₂ ◌+◌ (new (branch_of v)) (branches-same (with_branch f (branch_of v)) (with_branch g (branch_of v)) (with' (branch_of v)) vs)
   where
-    new : (k : Branch) → newBranch f k ≡ newBranch g k
+    new : (k : Branch) → new_branch f k ≡ new_branch g k
     new unbranched = refl
     new (branch i) = ap (λ b. cond {A = ℕ} b 0 1) (e i)
 
-    with' : (k : Branch) (i : ℕ) → withBranch f k i ≡ withBranch g k i
+    with' : (k : Branch) (i : ℕ) → with_branch f k i ≡ with_branch g k i
     with' unbranched i = e i
     with' (branch j) i = ap (λ b. cond (eqb j i) true b) (e i)
 
-kid-order : (f : ℕ → Bool) (i j k : ℕ) → withBranch (withBranch f (branch j)) (branch i) k ≡ withBranch (withBranch f (branch i)) (branch j) k
+kid-order : (f : ℕ → Bool) (i j k : ℕ) → with_branch (with_branch f (branch j)) (branch i) k ≡ with_branch (with_branch f (branch i)) (branch j) k
 kid-order f i j k = go (eqb i k) (eqb j k)
   where
     go : (a b : Bool) → cond a true (cond b true (f k)) ≡ cond b true (cond a true (f k))
@@ -74,33 +74,33 @@ kid-order f i j k = go (eqb i k) (eqb j k)
     go false true = refl
     go false false = refl
 
-kid-pair : (f : ℕ → Bool) (i j : ℕ) → newBranch f (branch j) + newBranch (withBranch f (branch j)) (branch i) ≤ newBranch f (branch i) + newBranch (withBranch f (branch i)) (branch j)
+kid-pair : (f : ℕ → Bool) (i j : ℕ) → new_branch f (branch j) + new_branch (with_branch f (branch j)) (branch i) ≤ new_branch f (branch i) + new_branch (with_branch f (branch i)) (branch j)
 kid-pair f i j = grind (arith, nat_tests)
 
 -- an index that is there already saves one record at the most
-pub branches-credit : (f : ℕ → Bool) (k : Branch) (vs : List Value) → branches f vs ≤ newBranch f k + branches (withBranch f k) vs
+pub branches-credit : (f : ℕ → Bool) (k : Branch) (vs : List Value) → branches f vs ≤ new_branch f k + branches (with_branch f k) vs
 branches-credit f unbranched vs = omega arith
 branches-credit f (branch i) [] = omega arith
-branches-credit f (branch i) (v ∷ vs) = go (branchOf v) (λ g. branches-credit g (branch i) vs)
+branches-credit f (branch i) (v ∷ vs) = go (branch_of v) (λ g. branches-credit g (branch i) vs)
   where
-    go : (k : Branch) → ((g : ℕ → Bool) → branches g vs ≤ newBranch g (branch i) + branches (withBranch g (branch i)) vs) → newBranch f k + branches (withBranch f k) vs ≤ newBranch f (branch i) + (newBranch (withBranch f (branch i)) k + branches (withBranch (withBranch f (branch i)) k) vs)
+    go : (k : Branch) → ((g : ℕ → Bool) → branches g vs ≤ new_branch g (branch i) + branches (with_branch g (branch i)) vs) → new_branch f k + branches (with_branch f k) vs ≤ new_branch f (branch i) + (new_branch (with_branch f (branch i)) k + branches (with_branch (with_branch f (branch i)) k) vs)
     go unbranched ih = omega (arith, ih f)
     go (branch j) ih =
-        omega (arith, kid-pair f i j, ih (withBranch f (branch j)), branches-same (withBranch (withBranch f (branch j)) (branch i)) (withBranch (withBranch f (branch i)) (branch j)) (kid-order f i j) vs)
+        omega (arith, kid-pair f i j, ih (with_branch f (branch j)), branches-same (with_branch (with_branch f (branch j)) (branch i)) (with_branch (with_branch f (branch i)) (branch j)) (kid-order f i j) vs)
 
 -- ---- what is still to be taken
 
-abbrev pub slotNeed : List Entry → List Entry → Path → ℕ
-slotNeed ps es q = cond (unseen ps q) (total cells (at q es)) 0
+abbrev pub slot_need : List Entry → List Entry → Path → ℕ
+slot_need ps es q = cond (unseen ps q) (total cells (at q es)) 0
 
-abbrev pub recordNeed : List Entry → List Entry → (Path → Bool) → Path → ℕ
-recordNeed ps es mk q = cond (unseen ps q) (marks (at q es)) 0 + branches (λ i. mk (q ▹ alt i)) (at q es)
+abbrev pub record_need : List Entry → List Entry → (Path → Bool) → Path → ℕ
+record_need ps es mk q = cond (unseen ps q) (marks (at q es)) 0 + branches (λ i. mk (q ▹ alt i)) (at q es)
 
-abbrev pub slotsLeft : List Entry → List Entry → List Entry → ℕ
-slotsLeft ts ps es = total (slotNeed ps es) (firsts ts)
+abbrev pub slots_left : List Entry → List Entry → List Entry → ℕ
+slots_left ts ps es = total (slot_need ps es) (firsts ts)
 
-abbrev pub recordsLeft : List Entry → List Entry → List Entry → (Path → Bool) → ℕ
-recordsLeft ts ps es mk = total (recordNeed ps es mk) (firsts ts)
+abbrev pub records_left : List Entry → List Entry → List Entry → (Path → Bool) → ℕ
+records_left ts ps es mk = total (record_need ps es mk) (firsts ts)
 
 pub has-whole : (ts ps es : List Entry) (p : Path) (v : Value) → at p ts ≡ at p ps ++ at p (entry p v ∷ es) → has p (firsts ts) ≡ true
 has-whole ts ps es p v w = go (at p ps) (w ∙ ap (λ l. at p ps ++ l) (at_here p v es))
@@ -110,53 +110,53 @@ has-whole ts ps es p v w = go (at p ps) (w ∙ ap (λ l. at p ps ++ l) (at_here 
     go (x ∷ xs) e = has-firsts p ts x (xs ++ v ∷ at p es) e
 
 seen-now : (ps : List Entry) (p : Path) (v : Value) → unseen (ps ++ entry p v ∷ []) p ≡ false
-seen-now ps p v = ap isNil (at_on p v ps) ∙ not-nil (at p ps) v
+seen-now ps p v = ap is_nil (at_on p v ps) ∙ not-nil (at p ps) v
 
 pub slots-step : (ts ps es : List Entry) (p : Path) (v : Value) → has p (firsts ts) ≡ true
-    → slotsLeft ts (ps ++ entry p v ∷ []) es + cond (unseen ps p) (total cells (v ∷ at p es)) 0 ≤ slotsLeft ts ps (entry p v ∷ es)
+    → slots_left ts (ps ++ entry p v ∷ []) es + cond (unseen ps p) (total cells (v ∷ at p es)) 0 ≤ slots_left ts ps (entry p v ∷ es)
 slots-step ts ps es p v has' =
-    let l : total (slotNeed (ps ++ entry p v ∷ []) es) (firsts ts) + slotNeed ps (entry p v ∷ es) p ≤ slotNeed (ps ++ entry p v ∷ []) es p + total (slotNeed ps (entry p v ∷ es)) (firsts ts) =
-    lowered (slotNeed ps (entry p v ∷ es)) (slotNeed (ps ++ entry p v ∷ []) es) le p (firsts ts) has' in
+    let l : total (slot_need (ps ++ entry p v ∷ []) es) (firsts ts) + slot_need ps (entry p v ∷ es) p ≤ slot_need (ps ++ entry p v ∷ []) es p + total (slot_need ps (entry p v ∷ es)) (firsts ts) =
+    lowered (slot_need ps (entry p v ∷ es)) (slot_need (ps ++ entry p v ∷ []) es) le p (firsts ts) has' in
     omega (arith, l, at_p, now)
   where
-    now : slotNeed (ps ++ entry p v ∷ []) es p ≡ 0
+    now : slot_need (ps ++ entry p v ∷ []) es p ≡ 0
     now = rw (seen-now ps p v) refl
 
-    at_p : slotNeed ps (entry p v ∷ es) p ≡ cond (unseen ps p) (total cells (v ∷ at p es)) 0
+    at_p : slot_need ps (entry p v ∷ es) p ≡ cond (unseen ps p) (total cells (v ∷ at p es)) 0
     at_p = rw (at_here p v es) refl
 
-    le : (q : Path) → slotNeed (ps ++ entry p v ∷ []) es q ≤ slotNeed ps (entry p v ∷ es) q
+    le : (q : Path) → slot_need (ps ++ entry p v ∷ []) es q ≤ slot_need ps (entry p v ∷ es) q
     le q = go (same p q) refl
       where
-        go : (b : Bool) → same p q ≡ b → slotNeed (ps ++ entry p v ∷ []) es q ≤ slotNeed ps (entry p v ∷ es) q
-        go true e = omega (arith, now, ap (slotNeed (ps ++ entry p v ∷ []) es) (same_true p q e))
+        go : (b : Bool) → same p q ≡ b → slot_need (ps ++ entry p v ∷ []) es q ≤ slot_need ps (entry p v ∷ es) q
+        go true e = omega (arith, now, ap (slot_need (ps ++ entry p v ∷ []) es) (same_true p q e))
         go false e = rw (at-past p q v es e, at_off p q v ps e) (omega arith)
 
 pub records-step : (ts ps es : List Entry) (p : Path) (v : Value) (mk nk : Path → Bool) → has p (firsts ts) ≡ true
     → ((q : Path) → same p q ≡ false → (i : ℕ) → nk (q ▹ alt i) ≡ mk (q ▹ alt i))
     → branches (λ i. nk (p ▹ alt i)) (at p es) ≤ branches (λ i. mk (p ▹ alt i)) (v ∷ at p es)
-    → recordsLeft ts (ps ++ entry p v ∷ []) es nk + cond (unseen ps p) (takes (kind v)) 0 + branches (λ i. mk (p ▹ alt i)) (v ∷ at p es)
-    ≤ branches (λ i. nk (p ▹ alt i)) (at p es) + recordsLeft ts ps (entry p v ∷ es) mk
+    → records_left ts (ps ++ entry p v ∷ []) es nk + cond (unseen ps p) (takes (kind v)) 0 + branches (λ i. mk (p ▹ alt i)) (v ∷ at p es)
+    ≤ branches (λ i. nk (p ▹ alt i)) (at p es) + records_left ts ps (entry p v ∷ es) mk
 records-step ts ps es p v mk nk has' off less =
-    let l : total (recordNeed (ps ++ entry p v ∷ []) es nk) (firsts ts) + recordNeed ps (entry p v ∷ es) mk p
-    ≤ recordNeed (ps ++ entry p v ∷ []) es nk p + total (recordNeed ps (entry p v ∷ es) mk) (firsts ts) =
-    lowered (recordNeed ps (entry p v ∷ es) mk) (recordNeed (ps ++ entry p v ∷ []) es nk) le p (firsts ts) has' in
+    let l : total (record_need (ps ++ entry p v ∷ []) es nk) (firsts ts) + record_need ps (entry p v ∷ es) mk p
+    ≤ record_need (ps ++ entry p v ∷ []) es nk p + total (record_need ps (entry p v ∷ es) mk) (firsts ts) =
+    lowered (record_need ps (entry p v ∷ es) mk) (record_need (ps ++ entry p v ∷ []) es nk) le p (firsts ts) has' in
     omega (arith, l, at_p, now)
   where
-    now : recordNeed (ps ++ entry p v ∷ []) es nk p ≡ 0 + branches (λ i. nk (p ▹ alt i)) (at p es)
+    now : record_need (ps ++ entry p v ∷ []) es nk p ≡ 0 + branches (λ i. nk (p ▹ alt i)) (at p es)
     now = rw (seen-now ps p v) refl
 
-    at_p : recordNeed ps (entry p v ∷ es) mk p ≡ cond (unseen ps p) (takes (kind v)) 0 + branches (λ i. mk (p ▹ alt i)) (v ∷ at p es)
+    at_p : record_need ps (entry p v ∷ es) mk p ≡ cond (unseen ps p) (takes (kind v)) 0 + branches (λ i. mk (p ▹ alt i)) (v ∷ at p es)
     at_p = rw (at_here p v es) refl
 
-    own : recordNeed (ps ++ entry p v ∷ []) es nk p ≤ recordNeed ps (entry p v ∷ es) mk p
+    own : record_need (ps ++ entry p v ∷ []) es nk p ≤ record_need ps (entry p v ∷ es) mk p
     own = omega (arith, now, at_p, less)
 
-    le : (q : Path) → recordNeed (ps ++ entry p v ∷ []) es nk q ≤ recordNeed ps (entry p v ∷ es) mk q
+    le : (q : Path) → record_need (ps ++ entry p v ∷ []) es nk q ≤ record_need ps (entry p v ∷ es) mk q
     le q = go (same p q) refl
       where
-        go : (b : Bool) → same p q ≡ b → recordNeed (ps ++ entry p v ∷ []) es nk q ≤ recordNeed ps (entry p v ∷ es) mk q
-        go true e = subst (λ (o : Path). recordNeed (ps ++ entry p v ∷ []) es nk o ≤ recordNeed ps (entry p v ∷ es) mk o) (same_true p q e) own
+        go : (b : Bool) → same p q ≡ b → record_need (ps ++ entry p v ∷ []) es nk q ≤ record_need ps (entry p v ∷ es) mk q
+        go true e = subst (λ (o : Path). record_need (ps ++ entry p v ∷ []) es nk o ≤ record_need ps (entry p v ∷ es) mk o) (same_true p q e) own
         go false e = rw (at-past p q v es e, at_off p q v ps e) (omega (arith, branches-same (λ i. nk (q ▹ alt i)) (λ i. mk (q ▹ alt i)) (off q e) (at q es)))
 
 -- ---- at the start

@@ -6,31 +6,31 @@ use Rattle.column.specs.Meaning.{Meaning}
 use Rattle.document.specs.Calls.{total, Kind, SCALAR, TEXT, SEQ, MAP, ENUM, UNIT, TUPLE, Cell, str, num, Value, scalar, text, unit, none, some, variant, seq, map, tuple, kind, cell}
 use Rattle.document.specs.Nodes.{Path, same}
 use Rattle.document.specs.Entries.{Entry, entry, at}
-use Rattle.document.specs.Columns.{columns, joined, lengthBytes}
-use Rattle.document.specs.Reader.{put, letterCount}
+use Rattle.document.specs.Columns.{columns, joined, length_bytes}
+use Rattle.document.specs.Reader.{put, letter_count}
 use Rattle.document.proofs.Sound.{OneKind}
 use Rattle.document.proofs.Paths.{same_true, at-append}
-use Rattle.document.proofs.ReadBack.{isText}
+use Rattle.document.proofs.ReadBack.{is_text}
 use Rattle.document.proofs.Between.{touched, touched-unit, unit_kind, last-kind, at-past, at_off}
 
 -- the texts of these cells stand one after another from the place on; a number is no text
 abbrev pub Stands : List ℕ → ℕ → List Cell → Type 0
 Stands input k [] = Unit {0}
-Stands input k (c ∷ cs) = (take (letterCount c) (drop k input) ≡ str c) × Stands input (k + letterCount c) cs
+Stands input k (c ∷ cs) = (take (letter_count c) (drop k input) ≡ str c) × Stands input (k + letter_count c) cs
 
 stands-joined : (input : List ℕ) (cs : List Cell) (k : ℕ) (rest : List ℕ) → drop k input ≡ joined (each str cs) ++ rest → Stands input k cs
 stands-joined input [] k rest e = tt
 stands-joined input (c ∷ cs) k rest e =
     let front : drop k input ≡ str c ++ (joined (each str cs) ++ rest) = e ∙ append_assoc (str c) (joined (each str cs)) rest in (
-      ap (take (letterCount c)) front ∙ take_at (str c) (joined (each str cs) ++ rest) (letterCount c) refl,
-      stands-joined input cs (k + letterCount c) rest (sym (drop-drop (letterCount c) k input) ∙ ap (drop (letterCount c)) front ∙ drop_at (str c) (joined (each str cs) ++ rest) (letterCount c) refl),
+      ap (take (letter_count c)) front ∙ take_at (str c) (joined (each str cs) ++ rest) (letter_count c) refl,
+      stands-joined input cs (k + letter_count c) rest (sym (drop-drop (letter_count c) k input) ∙ ap (drop (letter_count c)) front ∙ drop_at (str c) (joined (each str cs) ++ rest) (letter_count c) refl),
     )
 
 -- a value that is no text has no letters
-no-letters : (K : Kind) → isText K ≡ false → (v : Value) → kind v ≡ K → str (cell v) ≡ []
-unfolding isText
+no-letters : (K : Kind) → is_text K ≡ false → (v : Value) → kind v ≡ K → str (cell v) ≡ []
+unfolding is_text
 no-letters K f (scalar k b) e = refl
-no-letters K f (text bs) e = cc (ap isText e)
+no-letters K f (text bs) e = cc (ap is_text e)
 no-letters K f unit e = refl
 no-letters K f none e = refl
 no-letters K f some e = refl
@@ -39,23 +39,23 @@ no-letters K f (seq n) e = refl
 no-letters K f (map n) e = refl
 no-letters K f (tuple n) e = refl
 
-stands-none : (input : List ℕ) (K : Kind) → isText K ≡ false → (vs : List Value) → AllByRecursion (λ v. kind v ≡ K) vs → (k : ℕ) → Stands input k (each cell vs)
+stands-none : (input : List ℕ) (K : Kind) → is_text K ≡ false → (vs : List Value) → AllByRecursion (λ v. kind v ≡ K) vs → (k : ℕ) → Stands input k (each cell vs)
 stands-none input K f [] h k = tt
-stands-none input K f (v ∷ vs) h k = let e = no-letters K f v h.0 in (rw e refl, stands-none input K f vs h.1 (k + letterCount (cell v)))
+stands-none input K f (v ∷ vs) h k = let e = no-letters K f v h.0 in (rw e refl, stands-none input K f vs h.1 (k + letter_count (cell v)))
 
-letters-joined : (cs : List Cell) → total letterCount cs ≡ length (joined (each str cs))
+letters-joined : (cs : List Cell) → total letter_count cs ≡ length (joined (each str cs))
 letters-joined [] = refl
 letters-joined (c ∷ cs) = omega (arith, letters-joined cs, length-append (str c) (joined (each str cs)))
 
 -- a node's texts stand at the end of its bytes
 stands-new : (col : Meaning) (input : List ℕ) (K : Kind) (vs : List Value) (rest : List ℕ) (place : ℕ) → AllByRecursion (λ u. kind u ≡ K) vs
-    → drop place input ≡ columns col K (each cell vs) ++ rest → Stands input (place + length (columns col K (each cell vs)) - total letterCount (each cell vs)) (each cell vs)
-unfolding columns isText
+    → drop place input ≡ columns col K (each cell vs) ++ rest → Stands input (place + length (columns col K (each cell vs)) - total letter_count (each cell vs)) (each cell vs)
+unfolding columns is_text
 stands-new col input (SCALAR k) vs rest place h e = stands-none input (SCALAR k) refl vs h _
 stands-new col input TEXT vs rest place h e =
-    let lengths : List ℕ = lengthBytes col (each num (each cell vs)) in
+    let lengths : List ℕ = length_bytes col (each num (each cell vs)) in
     let letters : List ℕ = joined (each str (each cell vs)) in
-    let at : place + length (lengths ++ letters) - total letterCount (each cell vs) ≡ place + length lengths = omega (arith, length-append lengths letters, letters-joined (each cell vs)) in
+    let at : place + length (lengths ++ letters) - total letter_count (each cell vs) ≡ place + length lengths = omega (arith, length-append lengths letters, letters-joined (each cell vs)) in
     let there : drop (place + length lengths) input ≡ letters ++ rest =
     sym (drop-drop (length lengths) place input) ∙ ap (drop (length lengths)) (e ∙ append_assoc lengths letters rest) ∙ drop_at lengths (letters ++ rest) (length lengths) refl in
     rw at (stands-joined input (each cell vs) (place + length lengths) rest there)
@@ -66,7 +66,7 @@ stands-new col input UNIT vs rest place h e = stands-none input UNIT refl vs h _
 stands-new col input (TUPLE n) vs rest place h e = stands-none input (TUPLE n) refl vs h _
 
 pub texts-new : (col : Meaning) (input : List ℕ) (K : Kind) (vs : List Value) (rest : List ℕ) (place : ℕ) → AllByRecursion (λ u. kind u ≡ K) vs → drop place input ≡ columns col K (each cell vs) ++ rest
-    → Stands input (place + length (columns col K (each cell vs)) - total letterCount (each cell vs)) (each cell vs) × (drop (place + length (columns col K (each cell vs))) input ≡ rest)
+    → Stands input (place + length (columns col K (each cell vs)) - total letter_count (each cell vs)) (each cell vs) × (drop (place + length (columns col K (each cell vs))) input ≡ rest)
 texts-new col input K vs rest place h e =
     let cols : List ℕ = columns col K (each cell vs) in
     (stands-new col input K vs rest place h e, sym (drop-drop (length cols) place input) ∙ ap (drop (length cols)) e ∙ drop_at cols rest (length cols) refl)

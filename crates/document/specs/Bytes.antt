@@ -28,12 +28,12 @@ written col [] = []
 written col (v ∷ vs) = columns col (kind v) (each cell (v ∷ vs))
 
 -- the bytes of a node
-abbrev pub nodeBytes : Meaning → List Entry → Path → List ℕ
-nodeBytes col es p = written col (at p es)
+abbrev pub node_bytes : Meaning → List Entry → Path → List ℕ
+node_bytes col es p = written col (at p es)
 
 -- the bytes of all nodes
 abbrev pub bytes_of : Meaning → List Entry → List ℕ
-bytes_of col es = joined (each (nodeBytes col es) (firsts es))
+bytes_of col es = joined (each (node_bytes col es) (firsts es))
 
 -- the bytes of a list of calls
 abbrev pub bytes : Meaning → List Call → List ℕ

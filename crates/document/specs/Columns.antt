@@ -26,15 +26,15 @@ joined [] = []
 joined (t ∷ ts) = t ++ joined ts
 
 -- lengths, as two columns
-abbrev pub lengthBytes : Meaning → List ℕ → List ℕ
-lengthBytes col ns = col.image 8 (each short ns) ++ col.image 64 (longs ns)
+abbrev pub length_bytes : Meaning → List ℕ → List ℕ
+length_bytes col ns = col.image 8 (each short ns) ++ col.image 64 (longs ns)
 
 -- a node's bytes, by its kind: a text's lengths and then all text bytes; a unit and a tuple have none
 unfoldable pub columns : Meaning → Kind → List Cell → List ℕ
 columns col (SCALAR k) cs = col.image (width k) (each num cs)
-columns col TEXT cs = lengthBytes col (each num cs) ++ joined (each str cs)
-columns col SEQ cs = lengthBytes col (each num cs)
-columns col MAP cs = lengthBytes col (each num cs)
+columns col TEXT cs = length_bytes col (each num cs) ++ joined (each str cs)
+columns col SEQ cs = length_bytes col (each num cs)
+columns col MAP cs = length_bytes col (each num cs)
 columns col ENUM cs = col.image 8 (each num cs)
 columns col UNIT cs = []
 columns col (TUPLE n) cs = []

@@ -61,13 +61,13 @@ cut [] bs = []
 cut (n ∷ ns) bs = take n bs ∷ cut ns (drop n bs)
 
 -- whether all texts are well-formed
-abbrev pub allPass : List (List ℕ) → Bool
-allPass [] = true
-allPass (t ∷ ts) = passes t && allPass ts
+abbrev pub all_pass : List (List ℕ) → Bool
+all_pass [] = true
+all_pass (t ∷ ts) = passes t && all_pass ts
 
 -- every text is tested
 abbrev pub tested : List (List ℕ) → Supply → Fetched (List (List ℕ))
-tested ts u = cond (allPass ts) (fetched ts u) (denied refusals.Text)
+tested ts u = cond (all_pass ts) (fetched ts u) (denied refusals.Text)
 
 -- the text bytes are a third column, of layer 0
 abbrev pub parted : ℕ → List ℕ → Supply → Fetched (List (List ℕ))
@@ -79,29 +79,29 @@ abbrev pub texts : Meaning → ℕ → ℕ → Supply → Fetched (List (List �
 texts col column n u = and_then (lengths col column n u) (parted column)
 
 -- numbers as cells
-abbrev pub asNumbers : List ℕ → Supply → Fetched (List Cell)
-asNumbers ns u = fetched (each number ns) u
+abbrev pub as_numbers : List ℕ → Supply → Fetched (List Cell)
+as_numbers ns u = fetched (each number ns) u
 
 -- texts as cells
-abbrev pub asLetters : List (List ℕ) → Supply → Fetched (List Cell)
-asLetters ts u = fetched (each letters ts) u
+abbrev pub as_letters : List (List ℕ) → Supply → Fetched (List Cell)
+as_letters ts u = fetched (each letters ts) u
 
 -- the cells of a node of this kind with n values, its first column having this number
 unfoldable pub fetch : Meaning → ℕ → Kind → ℕ → Supply → Fetched (List Cell)
-fetch col column (SCALAR k) n u = and_then (numbers col column (width k) n u) asNumbers
-fetch col column TEXT n u = and_then (texts col column n u) asLetters
-fetch col column SEQ n u = and_then (lengths col column n u) asNumbers
-fetch col column MAP n u = and_then (lengths col column n u) asNumbers
-fetch col column ENUM n u = and_then (numbers col column 8 n u) asNumbers
+fetch col column (SCALAR k) n u = and_then (numbers col column (width k) n u) as_numbers
+fetch col column TEXT n u = and_then (texts col column n u) as_letters
+fetch col column SEQ n u = and_then (lengths col column n u) as_numbers
+fetch col column MAP n u = and_then (lengths col column n u) as_numbers
+fetch col column ENUM n u = and_then (numbers col column 8 n u) as_numbers
 fetch col column UNIT n u = fetched (replicate n (number 0)) u
 fetch col column (TUPLE m) n u = fetched (replicate n (number m)) u
 
 -- how many columns a node of this kind has
-abbrev pub columnsOf : Kind → ℕ
-columnsOf (SCALAR k) = 1
-columnsOf TEXT = 3
-columnsOf SEQ = 2
-columnsOf MAP = 2
-columnsOf ENUM = 1
-columnsOf UNIT = 0
-columnsOf (TUPLE n) = 0
+abbrev pub columns_of : Kind → ℕ
+columns_of (SCALAR k) = 1
+columns_of TEXT = 3
+columns_of SEQ = 2
+columns_of MAP = 2
+columns_of ENUM = 1
+columns_of UNIT = 0
+columns_of (TUPLE n) = 0

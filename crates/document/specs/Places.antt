@@ -74,8 +74,8 @@ settle (only p ∷ fs) = only p ∷ fs
 settle (closing ∷ fs) = settle fs
 
 -- at most 32 places are open beside the root's own
-abbrev pub tooMany : ℕ → Bool
-tooMany n = nat_lt 33 n
+abbrev pub too_many : ℕ → Bool
+too_many n = nat_lt 33 n
 
 -- what a call does to the places: its entries and the places after it, or a refusal
 pub data Turn : Type 0 where
@@ -85,7 +85,7 @@ pub data Turn : Type 0 where
 -- a value that stands where the innermost place has it next
 abbrev pub tell : Value → List Place → Next → Turn
 tell v fs nowhere = stays Count
-tell v fs (there p f) = cond (tooMany (length (opens p v ++ f ∷ fs))) (stays Depth) (goes (leaves p v) (settle (opens p v ++ f ∷ fs)))
+tell v fs (there p f) = cond (too_many (length (opens p v ++ f ∷ fs))) (stays Depth) (goes (leaves p v) (settle (opens p v ++ f ∷ fs)))
 
 -- a call with these places open, the innermost first
 abbrev pub turn : List Place → Call → Turn

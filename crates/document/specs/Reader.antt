@@ -8,16 +8,16 @@ use Rattle.document.specs.declared.questions.Question.{Question}
 use Rattle.document.specs.declared.questions.Question.TheVariants as questions
 use Rattle.document.specs.Calls.{total, Kind, SCALAR, TEXT, SEQ, MAP, ENUM, TUPLE, Cell, num, str, Value, scalar, text, unit, none, some, variant, seq, map, tuple, Call, val, end}
 use Rattle.document.specs.Nodes.{Path, root, ◌▹◌, alt, same, demand}
-use Rattle.document.specs.Places.{Place, Next, nowhere, there, next, full, opens, settle, start, tooMany}
-use Rattle.document.specs.Fetch.{Supply, supply, Fetched, fetched, denied, fetch, columnsOf}
-use Rattle.document.specs.Tables.{takes, usableNodes, usableCells}
-use Rattle.document.specs.Verdict.{kindNumber}
+use Rattle.document.specs.Places.{Place, Next, nowhere, there, next, full, opens, settle, start, too_many}
+use Rattle.document.specs.Fetch.{Supply, supply, Fetched, fetched, denied, fetch, columns_of}
+use Rattle.document.specs.Tables.{takes, usable_nodes, usable_cells}
+use Rattle.document.specs.Verdict.{kind_number}
 
 -- ---- kinds, as the reader tells them apart: signed and unsigned numbers of one width are one kind
 
--- kinds by number (see `kindNumber`), the signed numbers as the unsigned ones four before them, and what comes after likewise
+-- kinds by number (see `kind_number`), the signed numbers as the unsigned ones four before them, and what comes after likewise
 abbrev pub code : Kind → ℕ
-code K = cond (nat_lt (kindNumber K) 5) (kindNumber K) (kindNumber K - 4)
+code K = cond (nat_lt (kind_number K) 5) (kind_number K) (kind_number K - 4)
 
 -- one kind to the reader
 abbrev pub kin : Kind → Kind → Bool
@@ -61,7 +61,7 @@ unread (p ▹ s) = fresh 0
 abbrev pub begin : ℕ → ℕ → List ℕ → Reading
 begin nodes slots bs =
     reading start
-    (record { nodes = unread; made = λ q. false; rooted = nat_le 1 (usableNodes nodes); records = usableNodes nodes - 1; slots = usableCells slots; input = bs; place = 0; columns = 0; texts = λ q. 0 })
+    (record { nodes = unread; made = λ q. false; rooted = nat_le 1 (usable_nodes nodes); records = usable_nodes nodes - 1; slots = usable_cells slots; input = bs; place = 0; columns = 0; texts = λ q. 0 })
 
 -- a map with another value at p
 abbrev pub put : {X : Type 0} → Path → X → (Path → X) → Path → X
@@ -75,8 +75,8 @@ spread p K cs ns (r ▹ s) = cond (same p r) (fresh (total (demand K s) cs)) (ns
 -- ---- a node's cells
 
 -- the number of letters of a cell
-abbrev pub letterCount : Cell → ℕ
-letterCount c = length (str c)
+abbrev pub letter_count : Cell → ℕ
+letter_count c = length (str c)
 
 -- a node's cells and the state with its columns read, or a refusal
 pub data Look : Type 0 where
@@ -86,7 +86,7 @@ pub data Look : Type 0 where
 -- a node whose columns were read: its texts stand at the end of what was read
 abbrev pub opened : Path → Kind → List Cell → Supply → Store → Store
 opened p K cs u st =
-    record { nodes = spread p K cs st.nodes; made = st.made; rooted = st.rooted; records = st.records - takes K; slots = u.slots; input = u.input; place = st.place + (length st.input - length u.input); columns = st.columns + columnsOf K; texts = put p (st.place + (length st.input - length u.input) - total letterCount cs) st.texts }
+    record { nodes = spread p K cs st.nodes; made = st.made; rooted = st.rooted; records = st.records - takes K; slots = u.slots; input = u.input; place = st.place + (length st.input - length u.input); columns = st.columns + columns_of K; texts = put p (st.place + (length st.input - length u.input) - total letter_count cs) st.texts }
 
 -- the node was read just now
 abbrev pub newly : Path → Kind → Store → Fetched (List Cell) → Look
@@ -143,14 +143,14 @@ abbrev pub oversized : Bool → ℕ → Bool
 oversized flag n = flag && nat_lt 65536 n
 
 -- a cell, as this question has it
-abbrev pub worthOf : Ask → Cell → Worth
-worthOf (scalar? k) c = worth (scalar k (num c))
-worthOf text? c = worth (text (str c))
-worthOf option? c = option (num c)
-worthOf variant? c = worth (variant (num c))
-worthOf (seq? flag) c = cond (oversized flag (num c)) (worthless refusals.NoSize) (worth (seq (num c)))
-worthOf (map? flag) c = cond (oversized flag (num c)) (worthless refusals.NoSize) (worth (map (num c)))
-worthOf (tuple? n) c = worth (tuple n)
+abbrev pub worth_of : Ask → Cell → Worth
+worth_of (scalar? k) c = worth (scalar k (num c))
+worth_of text? c = worth (text (str c))
+worth_of option? c = option (num c)
+worth_of variant? c = worth (variant (num c))
+worth_of (seq? flag) c = cond (oversized flag (num c)) (worthless refusals.NoSize) (worth (seq (num c)))
+worth_of (map? flag) c = cond (oversized flag (num c)) (worthless refusals.NoSize) (worth (map (num c)))
+worth_of (tuple? n) c = worth (tuple n)
 
 -- a child that takes a record when it is new: none for a `none`
 pub data Child : Type 0 where
@@ -158,43 +158,43 @@ pub data Child : Type 0 where
   child : Path → Child
 
 -- the child at which the value that follows stands
-abbrev pub childOf : Path → Value → Child
-childOf p (scalar k b) = childless
-childOf p (text bs) = childless
-childOf p unit = childless
-childOf p none = childless
-childOf p some = child (p ▹ alt 1)
-childOf p (variant i) = child (p ▹ alt i)
-childOf p (seq n) = childless
-childOf p (map n) = childless
-childOf p (tuple n) = childless
+abbrev pub child_of : Path → Value → Child
+child_of p (scalar k b) = childless
+child_of p (text bs) = childless
+child_of p unit = childless
+child_of p none = childless
+child_of p some = child (p ▹ alt 1)
+child_of p (variant i) = child (p ▹ alt i)
+child_of p (seq n) = childless
+child_of p (map n) = childless
+child_of p (tuple n) = childless
 
 -- a child has its record
-abbrev pub withChild : Path → Store → Store
-withChild q st =
+abbrev pub with_child : Path → Store → Store
+with_child q st =
     record { nodes = st.nodes; made = put q true st.made; rooted = st.rooted; records = st.records - 1; slots = st.slots; input = st.input; place = st.place; columns = st.columns; texts = st.texts }
 
 -- a new child takes a record, if there is one
 abbrev pub recorded : Call → ℕ → List Place → Store → Child → Reply
 recorded c at fs st childless = reply c at (reading fs st)
 recorded c at fs st (child q) =
-    cond (st.made q) (reply c at (reading fs st)) (cond (nat_le 1 st.records) (reply c at (reading fs (withChild q st))) (refuse refusals.Nodes))
+    cond (st.made q) (reply c at (reading fs st)) (cond (nat_le 1 st.records) (reply c at (reading fs (with_child q st))) (refuse refusals.Nodes))
 
 -- a cell of the node was taken: these are left, and its next text stands behind this one
 abbrev pub taken : Path → Kind → Cell → List Cell → Store → Store
 taken p K c cs st =
-    record { nodes = put p (ready K cs) st.nodes; made = st.made; rooted = st.rooted; records = st.records; slots = st.slots; input = st.input; place = st.place; columns = st.columns; texts = put p (st.texts p + letterCount c) st.texts }
+    record { nodes = put p (ready K cs) st.nodes; made = st.made; rooted = st.rooted; records = st.records; slots = st.slots; input = st.input; place = st.place; columns = st.columns; texts = put p (st.texts p + letter_count c) st.texts }
 
 -- the answer, where it opens no place too many
 abbrev pub give : Path → List Place → Kind → Cell → List Cell → Store → Worth → Reply
 give p fs K c cs st (worth v) =
-    cond (tooMany (length (opens p v ++ fs))) (refuse refusals.Depth) (recorded (val v) (st.texts p) (settle (opens p v ++ fs)) (taken p K c cs st) (childOf p v))
+    cond (too_many (length (opens p v ++ fs))) (refuse refusals.Depth) (recorded (val v) (st.texts p) (settle (opens p v ++ fs)) (taken p K c cs st) (child_of p v))
 give p fs K c cs st (worthless r) = refuse r
 
 -- the next of the node's cells; that there is none does not happen
 abbrev pub pick : Path → List Place → Ask → Look → Reply
 pick p fs a (found [] st) = refuse refusals.Count
-pick p fs a (found (c ∷ cs) st) = give p fs (asks a) c cs st (worthOf a c)
+pick p fs a (found (c ∷ cs) st) = give p fs (asks a) c cs st (worth_of a c)
 pick p fs a (lost r) = refuse r
 
 -- a question of a node
@@ -203,7 +203,7 @@ consult col st p fs a = pick p fs a (look col p (asks a) st)
 
 -- a question that opens a place whatever the answer
 abbrev pub opening : List Place → Reply → Reply
-opening fs r = cond (tooMany (suc (length fs))) (refuse refusals.Depth) r
+opening fs r = cond (too_many (suc (length fs))) (refuse refusals.Depth) r
 
 -- without a root record each value is refused in its turn
 abbrev pub rooted : Store → Reply → Reply

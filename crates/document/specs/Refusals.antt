@@ -29,11 +29,11 @@ number_of Room = 17
 number_of Left = 18
 
 -- what a column's fault becomes
-abbrev pub ofCause : Cause → ℕ → ℕ → Refusal
-ofCause NoRoom layer column = Room
-ofCause TooShort layer column = Short layer column
-ofCause NoValue layer column = Bad layer column
+abbrev pub of_cause : Cause → ℕ → ℕ → Refusal
+of_cause NoRoom layer column = Room
+of_cause TooShort layer column = Short layer column
+of_cause NoValue layer column = Bad layer column
 
 -- .. with its layer, and the column's number
-abbrev pub ofFault : Fault → ℕ → Refusal
-ofFault fault column = ofCause fault.cause fault.layer column
+abbrev pub of_fault : Fault → ℕ → Refusal
+of_fault fault column = of_cause fault.cause fault.layer column

@@ -7,10 +7,10 @@ use Rattle.document.specs.Nodes.{Path, root, ◌▹◌, Step, demands}
 use Rattle.document.specs.Entries.{Entry, at}
 use Rattle.document.specs.Places.{Place, there, next, start, Complete, Runs}
 use Rattle.document.specs.Grammar.{Document}
-use Rattle.document.specs.Trace.{trace, placesAfter}
+use Rattle.document.specs.Trace.{trace, places_after}
 use Rattle.document.specs.Bytes.{bytes}
-use Rattle.document.specs.Tables.{recordsOf}
-use Rattle.document.specs.Records.{nodesOf, times}
+use Rattle.document.specs.Tables.{records_of}
+use Rattle.document.specs.Records.{nodes_of, times}
 use Rattle.document.specs.Verdict.{Sizes, Accepted, Done}
 use Rattle.document.specs.Said.{asked}
 use Rattle.document.specs.Reader.{begin}
@@ -28,10 +28,10 @@ Conservation = (sizes : Sizes) (cs : List Call) → Accepted sizes cs → Done c
 
 -- Node records: as many as the tables are charged for, no node with two, and one at each node that has a value or at which one is next.
 pub record Allocation : Type 0 where
-  pub count : (ts : List Entry) → length (nodesOf ts) ≡ 1 + recordsOf ts
-  pub once : (ts : List Entry) (q : Path) → times q (nodesOf ts) ≤ 1
-  pub visited : (sizes : Sizes) (cs : List Call) → Accepted sizes cs → (q : Path) → at q (trace start cs) ≢ [] → times q (nodesOf (trace start cs)) ≡ 1
-  pub awaited : (sizes : Sizes) (cs : List Call) → Accepted sizes cs → (f g : Place) (fs : List Place) (q : Path) → placesAfter start cs ≡ f ∷ fs → next f ≡ there q g → times q (nodesOf (trace start cs)) ≡ 1
+  pub count : (ts : List Entry) → length (nodes_of ts) ≡ 1 + records_of ts
+  pub once : (ts : List Entry) (q : Path) → times q (nodes_of ts) ≤ 1
+  pub visited : (sizes : Sizes) (cs : List Call) → Accepted sizes cs → (q : Path) → at q (trace start cs) ≢ [] → times q (nodes_of (trace start cs)) ≡ 1
+  pub awaited : (sizes : Sizes) (cs : List Call) → Accepted sizes cs → (f g : Place) (fs : List Place) (q : Path) → places_after start cs ≡ f ∷ fs → next f ≡ there q g → times q (nodes_of (trace start cs)) ≡ 1
 
 -- q asks for the call c, flagged only where its length is no more than 65,536
 abbrev pub Asks : Question → Call → Type 0

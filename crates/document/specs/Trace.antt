@@ -20,6 +20,6 @@ went (stays r) = []
 went (goes es gs) = gs
 
 -- the places after a list of calls
-abbrev pub placesAfter : List Place → List Call → List Place
-placesAfter fs [] = fs
-placesAfter fs (c ∷ cs) = placesAfter (went (turn fs c)) cs
+abbrev pub places_after : List Place → List Call → List Place
+places_after fs [] = fs
+places_after fs (c ∷ cs) = places_after (went (turn fs c)) cs

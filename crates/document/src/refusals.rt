@@ -1,7 +1,7 @@
 //! Every refusal, and its number.
 
 ghost use Rattle.std.specs.Prelude.{◌≡◌};
-ghost use Rattle.document.specs.Refusals.{number_of, ofFault};
+ghost use Rattle.document.specs.Refusals.{number_of, of_fault};
 
 use column::fault::{Cause, Fault};
 
@@ -77,7 +77,7 @@ impl Refusal {
 
     /// The refusal that a column's fault makes, with the column's number.
     pub fn of_fault(fault: Fault, column: u32) -> Refusal
-        ensures { result ≡ ofFault fault column }
+        ensures { result ≡ of_fault fault column }
     {
         match fault.cause {
             Cause::Room => Refusal::Room,

@@ -3,12 +3,12 @@ use Rattle.std.proofs.Common.{◌≡◌, ℕ, zero, suc, ◌+◌, ◌<◌, get_o
 use Rattle.document.specs.Calls.{Kind, SCALAR, TEXT, SEQ, MAP, ENUM, UNIT, TUPLE}
 use Rattle.document.specs.Nodes.{Path, root, ◌▹◌, Step, elem, key, value, field}
 use Rattle.document.specs.Tables.{takes}
-use Rattle.document.specs.Records.{brought, fieldsFrom}
-use Rattle.nodes.specs.Marks.{mark_of, familyOf}
+use Rattle.document.specs.Records.{brought, fields_from}
+use Rattle.nodes.specs.Marks.{mark_of, family_of}
 use Rattle.nodes.specs.Homes.{ordinal}
 
 -- as many children come with a kind's mark as the kind takes records
-pub family-takes : (K : Kind) → familyOf (mark_of K) ≡ takes K
+pub family-takes : (K : Kind) → family_of (mark_of K) ≡ takes K
 family-takes (SCALAR k) = refl
 family-takes TEXT = refl
 family-takes SEQ = refl
@@ -18,7 +18,7 @@ family-takes UNIT = refl
 family-takes (TUPLE n) = refl
 
 -- so many fields, counted from i
-pub field_at : (p : Path) (i n j : ℕ) → j < n → get_or (fieldsFrom p i n) j root ≡ p ▹ field (i + j)
+pub field_at : (p : Path) (i n j : ℕ) → j < n → get_or (fields_from p i n) j root ≡ p ▹ field (i + j)
 field_at p i zero j h = absurd (omega arith)
 field_at p i (suc n) zero h = let e : i ≡ i + 0 = omega arith in ap (λ k. p ▹ field k) e
 field_at p i (suc n) (suc j) h = let e : suc i + j ≡ i + suc j = omega arith in field_at p (suc i) n j (omega arith) ∙ ap (λ k. p ▹ field k) e

@@ -7,7 +7,7 @@ use Rattle.document.specs.Nodes.{Path, root, ◌▹◌}
 use Rattle.document.specs.Records.{times}
 use Rattle.document.proofs.Paths.{same_true}
 use Rattle.document.proofs.Growth.{times-at, place_of}
-use Rattle.nodes.specs.Homes.{node_of, Home, isChild}
+use Rattle.nodes.specs.Homes.{node_of, Home, is_child}
 
 -- a record stays whose it is
 pub home-more : (ns ms : List Path) (r : ℕ) (p : Path) → Home ns r p → Home (ns ++ ms) r p
@@ -29,7 +29,7 @@ pub home-one : (ns : List Path) (r : ℕ) (p q : Path) → Home ns r p → Home 
 home-one ns r p q h k = sym h.2 ∙ k.2
 
 -- a child of two nodes
-pub child-one : (p q x : Path) → isChild p x ≡ true → isChild q x ≡ true → p ≡ q
+pub child-one : (p q x : Path) → is_child p x ≡ true → is_child q x ≡ true → p ≡ q
 child-one p q root e f = cc
 child-one p q (y ▹ s) e f = sym (same_true y p e) ∙ same_true y q f
 

@@ -3,12 +3,12 @@ use Rattle.std.proofs.Common.{◌≡◌, ℕ, ◌+◌, cond, eqb, ltb, refl, ap�
 use Rattle.std.proofs.lemmas.Bool.Decides.{nat_tests}
 use Rattle.document.specs.declared.scalars.Scalar.TheVariants as scalars
 use Rattle.document.specs.Calls.{Kind, SCALAR, TEXT, SEQ, MAP, ENUM, UNIT, TUPLE}
-use Rattle.document.specs.Verdict.{kindNumber}
+use Rattle.document.specs.Verdict.{kind_number}
 use Rattle.document.specs.Reader.{code, kin}
-use Rattle.nodes.specs.Marks.{markNumber, unsigned, mark_of}
+use Rattle.nodes.specs.Marks.{mark_number, unsigned, mark_of}
 
 -- A kind's mark has the number after the kind's.
-pub mark-number : (K : Kind) → markNumber (mark_of K) ≡ 1 + kindNumber K
+pub mark-number : (K : Kind) → mark_number (mark_of K) ≡ 1 + kind_number K
 mark-number (SCALAR k) = refl
 mark-number TEXT = refl
 mark-number SEQ = refl
@@ -21,7 +21,7 @@ mark-number (TUPLE n) = omega arith
 abbrev by_code : ℕ → ℕ
 by_code c = cond (ltb c 5) (1 + c) (5 + c)
 
-unsigned-code : (K : Kind) → markNumber (unsigned (mark_of K)) ≡ by_code (code K)
+unsigned-code : (K : Kind) → mark_number (unsigned (mark_of K)) ≡ by_code (code K)
 unsigned-code (SCALAR scalars.Bool) = refl
 unsigned-code (SCALAR scalars.U8) = refl
 unsigned-code (SCALAR scalars.U16) = refl
@@ -43,5 +43,5 @@ by-code-one : (a b : ℕ) → eqb (by_code a) (by_code b) ≡ eqb a b
 by-code-one a b = grind (arith, nat_tests)
 
 -- The marks of two kinds are told apart as a reader tells the kinds apart.
-pub kin_is : (J K : Kind) → eqb (markNumber (unsigned (mark_of J))) (markNumber (unsigned (mark_of K))) ≡ kin J K
+pub kin_is : (J K : Kind) → eqb (mark_number (unsigned (mark_of J))) (mark_number (unsigned (mark_of K))) ≡ kin J K
 kin_is J K = ap₂ eqb (unsigned-code J) (unsigned-code K) ∙ by-code-one (code J) (code K)

@@ -8,7 +8,7 @@ use Rattle.nodes.specs.declared.places.State.{State}
 use Rattle.nodes.specs.declared.places.State.TheVariants as states
 use Rattle.nodes.specs.declared.places.Place.{Place as Spot}
 use Rattle.nodes.specs.Stack.{levels, settled, opening}
-use Rattle.nodes.specs.Ahead.{Ahead, nowhere as no_record, there as at_record, ahead, isFull}
+use Rattle.nodes.specs.Ahead.{Ahead, nowhere as no_record, there as at_record, ahead, is_full}
 use Rattle.nodes.specs.Homes.{Home}
 use Rattle.nodes.specs.Placed.{Placed, Stacked, Open, Opens}
 use Rattle.nodes.proofs.Homes.{home-more}
@@ -113,15 +113,15 @@ pub leads_root : (ns : List Path) → Leads (root ∷ ns) (ahead states.Root) (n
 leads_root ns = ((omega arith, omega arith, refl), refl)
 
 -- a state is full when its place is
-pub full_is : (ns : List Path) (s : State) (f : Place) → Placed ns s f → isFull s ≡ full f
-full_is ns s (items p zero) (r, e, h) = ap isFull e
-full_is ns s (items p (suc m)) (r, e, h) = ap isFull e ∙ ne_eqb (suc m) 0 (λ z. omega arith)
-full_is ns s (keys p zero) (r, e, h, k) = ap isFull e
-full_is ns s (keys p (suc m)) (r, e, h, k) = ap isFull e ∙ ne_eqb (suc m) 0 (λ z. omega arith)
-full_is ns s (vals p n) (r, e, h, k) = ap isFull e
-full_is ns s (fields p i zero) (r, e, h) = ap isFull e
-full_is ns s (fields p i (suc m)) (r, e, h) = ap isFull e ∙ ne_eqb (suc m) 0 (λ z. omega arith)
-full_is ns s (lone p zero) (r, e, h) = ap isFull e
-full_is ns s (lone p (suc m)) (r, e, h) = ap isFull e ∙ ne_eqb (suc m) 0 (λ z. omega arith)
-full_is ns s (only p) (r, e, h) = ap isFull e
-full_is ns s closing e = ap isFull e
+pub full_is : (ns : List Path) (s : State) (f : Place) → Placed ns s f → is_full s ≡ full f
+full_is ns s (items p zero) (r, e, h) = ap is_full e
+full_is ns s (items p (suc m)) (r, e, h) = ap is_full e ∙ ne_eqb (suc m) 0 (λ z. omega arith)
+full_is ns s (keys p zero) (r, e, h, k) = ap is_full e
+full_is ns s (keys p (suc m)) (r, e, h, k) = ap is_full e ∙ ne_eqb (suc m) 0 (λ z. omega arith)
+full_is ns s (vals p n) (r, e, h, k) = ap is_full e
+full_is ns s (fields p i zero) (r, e, h) = ap is_full e
+full_is ns s (fields p i (suc m)) (r, e, h) = ap is_full e ∙ ne_eqb (suc m) 0 (λ z. omega arith)
+full_is ns s (lone p zero) (r, e, h) = ap is_full e
+full_is ns s (lone p (suc m)) (r, e, h) = ap is_full e ∙ ne_eqb (suc m) 0 (λ z. omega arith)
+full_is ns s (only p) (r, e, h) = ap is_full e
+full_is ns s closing e = ap is_full e

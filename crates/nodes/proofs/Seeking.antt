@@ -7,14 +7,14 @@ use Rattle.document.specs.Nodes.{Path, root, ◌▹◌, Step, alt}
 use Rattle.document.specs.Records.{times}
 use Rattle.document.proofs.Growth.{place_of}
 use Rattle.document.proofs.Paths.{same_self, same_true}
-use Rattle.nodes.specs.Homes.{node_of, Home, ordinal, isChild, places}
+use Rattle.nodes.specs.Homes.{node_of, Home, ordinal, is_child, places}
 use Rattle.nodes.specs.Children.{seek}
 use Rattle.nodes.proofs.PlacesOf.{places-all, places-has}
 use Rattle.nodes.proofs.Homes.{home-times}
 
 -- A record's index, as it stands among the indices.
-pub index_at : {R : Type 0} (indexOf : R → ℕ) (table : List R) (k : ℕ) (x : R) → k < length table → x ≡ get_or table k x → indexOf x ≡ get_or (map indexOf table) k 0
-index_at indexOf table k x l e = ap indexOf e ∙ sym (get_or-map indexOf table k x 0 l)
+pub index_at : {R : Type 0} (index_of : R → ℕ) (table : List R) (k : ℕ) (x : R) → k < length table → x ≡ get_or table k x → index_of x ≡ get_or (map index_of table) k 0
+index_at index_of table k x l e = ap index_of e ∙ sym (get_or-map index_of table k x 0 l)
 
 module _ (indices : List ℕ) (i k : ℕ) (all rest : List ℕ) (x : ℕ) (e : all ≡ k ∷ rest) (at : x ≡ get_or indices k 0) where
   -- A record with another index is passed over.
@@ -39,29 +39,29 @@ seek_found indices i P (k ∷ ks) (p, ps) = go (eqb (get_or indices k 0) i) refl
     go false e (inr w) = inr w
 
 -- A node that counts as a child of p is p with one step more.
-pub child-step : (p q : Path) → isChild p q ≡ true → (s : Step) × (q ≡ p ▹ s)
+pub child-step : (p q : Path) → is_child p q ≡ true → (s : Step) × (q ≡ p ▹ s)
 child-step p root e = let z : ◌≡◌ {A = ℕ} 0 1 = cc in absurd (omega arith)
 child-step p (q ▹ s) e = (s, ap (λ o. o ▹ s) (same_true q p e))
 
 -- Each record among a node's children is some child's.
-pub children-homes : (ns : List Path) (p : Path) → AllByRecursion (λ k. (s : Step) × Home ns k (p ▹ s)) (places (isChild p) 1 ns)
-children-homes ns p = places-all (λ k. (s : Step) × Home ns k (p ▹ s)) (isChild p) 1 ns root
+pub children-homes : (ns : List Path) (p : Path) → AllByRecursion (λ k. (s : Step) × Home ns k (p ▹ s)) (places (is_child p) 1 ns)
+children-homes ns p = places-all (λ k. (s : Step) × Home ns k (p ▹ s)) (is_child p) 1 ns root
     (λ j l e. let (s, q) = child-step p (get_or ns j root) e in (s, (omega arith, omega arith, ap (λ k. node_of ns k) (one-add j) ∙ q)))
 
 -- The child of an index, where each record has the index of its node and all children have one:
 -- there is none and the answer is 0, or it is that child's record.
 pub seek-child : (indices : List ℕ) (ns : List Path) (p : Path) → ((r : ℕ) (q : Path) → Home ns r q → get_or indices r 0 ≡ ordinal q) → ((s : Step) → 1 ≤ times (p ▹ s) ns → (j : ℕ) × (s ≡ alt j))
-    → (i : ℕ) → ((times (p ▹ alt i) ns ≡ 0) × (seek indices i (places (isChild p) 1 ns) ≡ 0)) ⊎ Home ns (seek indices i (places (isChild p) 1 ns)) (p ▹ alt i)
+    → (i : ℕ) → ((times (p ▹ alt i) ns ≡ 0) × (seek indices i (places (is_child p) 1 ns) ≡ 0)) ⊎ Home ns (seek indices i (places (is_child p) 1 ns)) (p ▹ alt i)
 seek-child indices ns p indexed branches i = ⊎_elim (λ n. inl (missing n.1, n.0)) (λ f. inr (found f.0 f.1)) (seek_found indices i (λ k. (s : Step) × Home ns k (p ▹ s)) ks (children-homes ns p))
   where
     ks : List ℕ
-    ks = places (isChild p) 1 ns
+    ks = places (is_child p) 1 ns
 
     missing : AllByRecursion (λ k. get_or indices k 0 ≡ i → ⊥) ks → times (p ▹ alt i) ns ≡ 0
     missing a = ⊎_elim (λ l. omega arith) (λ l. absurd (none-such (place_of (p ▹ alt i) ns l))) (cases_lt (times (p ▹ alt i) ns) 1)
       where
         none-such : (j : ℕ) × (j < length ns) × (get_or ns j root ≡ p ▹ alt i) → ⊥
-        none-such (j, l, e) = places-has (λ k. get_or indices k 0 ≡ i → ⊥) (isChild p) 1 ns root a j l (rw e (same_self p))
+        none-such (j, l, e) = places-has (λ k. get_or indices k 0 ≡ i → ⊥) (is_child p) 1 ns root a j l (rw e (same_self p))
             (indexed (1 + j) (p ▹ alt i) (omega arith, omega arith, ap (λ k. node_of ns k) (one-add j) ∙ e))
 
     found : (s : Step) × Home ns (seek indices i ks) (p ▹ s) → get_or indices (seek indices i ks) 0 ≡ i → Home ns (seek indices i ks) (p ▹ alt i)

@@ -31,12 +31,12 @@ Aims used (One r) = (0 < r) × (r < used)
 Aims used Closing = Unit {0}
 
 -- whether `end` may close the place
-abbrev pub isFull : State → Bool
-isFull Root = false
-isFull (Items r n) = n == 0
-isFull (Keys r n) = n == 0
-isFull (Vals r n) = false
-isFull (Fields r n) = n == 0
-isFull (Lone r n) = n == 0
-isFull (One r) = false
-isFull Closing = false
+abbrev pub is_full : State → Bool
+is_full Root = false
+is_full (Items r n) = n == 0
+is_full (Keys r n) = n == 0
+is_full (Vals r n) = false
+is_full (Fields r n) = n == 0
+is_full (Lone r n) = n == 0
+is_full (One r) = false
+is_full Closing = false

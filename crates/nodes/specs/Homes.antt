@@ -22,9 +22,9 @@ ordinal (p ▹ field i) = i
 ordinal (p ▹ alt i) = i
 
 -- whether a node is a child of p
-abbrev pub isChild : Path → Path → Bool
-isChild p root = false
-isChild p (q ▹ s) = same q p
+abbrev pub is_child : Path → Path → Bool
+is_child p root = false
+is_child p (q ▹ s) = same q p
 
 -- the places of those that pass the test, counted from i on
 abbrev pub places : {X : Type 0} → (X → Bool) → ℕ → List X → List ℕ

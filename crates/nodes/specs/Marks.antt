@@ -2,20 +2,20 @@
 use Rattle.std.specs.Prelude.{ℕ, ◌+◌, List, [], ◌∷◌}
 use Rattle.document.specs.declared.scalars.Scalar.TheVariants as scalars
 use Rattle.document.specs.Calls.{Value, kind, Kind, SCALAR, TEXT, SEQ, MAP, ENUM, UNIT, TUPLE}
-use Rattle.document.specs.Verdict.{scalarNumber}
+use Rattle.document.specs.Verdict.{scalar_number}
 use Rattle.nodes.specs.declared.marks.Mark.{Mark}
 use Rattle.nodes.specs.declared.marks.Mark.TheVariants as marks
 
 -- marks by number, each its own: none is 0, and a kind's comes after the number that the definitions give it
-abbrev pub markNumber : Mark → ℕ
-markNumber marks.Unmarked = 0
-markNumber (marks.Scalar k) = 1 + scalarNumber k
-markNumber marks.Text = 11
-markNumber marks.Seq = 12
-markNumber marks.Map = 13
-markNumber marks.Enum = 14
-markNumber marks.Unit = 15
-markNumber (marks.Tuple n) = 16 + n
+abbrev pub mark_number : Mark → ℕ
+mark_number marks.Unmarked = 0
+mark_number (marks.Scalar k) = 1 + scalar_number k
+mark_number marks.Text = 11
+mark_number marks.Seq = 12
+mark_number marks.Map = 13
+mark_number marks.Enum = 14
+mark_number marks.Unit = 15
+mark_number (marks.Tuple n) = 16 + n
 
 -- the mark of unsigned numbers in place of signed ones of the same width: a reader reads them alike
 abbrev pub unsigned : Mark → Mark
@@ -26,15 +26,15 @@ unsigned (marks.Scalar scalars.I64) = marks.Scalar scalars.U64
 unsigned m = m
 
 -- how many children come with a mark
-abbrev pub familyOf : Mark → ℕ
-familyOf marks.Unmarked = 0
-familyOf (marks.Scalar k) = 0
-familyOf marks.Text = 0
-familyOf marks.Seq = 1
-familyOf marks.Map = 2
-familyOf marks.Enum = 0
-familyOf marks.Unit = 0
-familyOf (marks.Tuple n) = n
+abbrev pub family_of : Mark → ℕ
+family_of marks.Unmarked = 0
+family_of (marks.Scalar k) = 0
+family_of marks.Text = 0
+family_of marks.Seq = 1
+family_of marks.Map = 2
+family_of marks.Enum = 0
+family_of marks.Unit = 0
+family_of (marks.Tuple n) = n
 
 -- a kind's mark
 abbrev pub mark_of : Kind → Mark
@@ -47,6 +47,6 @@ mark_of UNIT = marks.Unit
 mark_of (TUPLE n) = marks.Tuple n
 
 -- the mark of a node with these values
-abbrev pub markAt : List Value → Mark
-markAt [] = marks.Unmarked
-markAt (v ∷ vs) = mark_of (kind v)
+abbrev pub mark_at : List Value → Mark
+mark_at [] = marks.Unmarked
+mark_at (v ∷ vs) = mark_of (kind v)

@@ -9,16 +9,16 @@ use chain::{Chain, Linked, walk};
 /// A record that stands in the chain of its node's children, with an index that tells them apart.
 pub trait Indexed: Linked {
     // which child of its parent a record is
-    ghost indexOf: { Self → ℕ };
+    ghost index_of: { Self → ℕ };
 
     /// Which child of its parent it is.
     fn index(&self) -> u32
-        ensures { result ≡ indexOf self.now };
+        ensures { result ≡ index_of self.now };
 }
 
 /// The first record of the chain that has the index, 0 where there is none.
 pub fn find<R: Indexed>(table: &[R], children: Chain, index: u32) -> usize
-    ensures { result ≡ seek (map R.Indexed.indexOf table.now) index (course (map R.Linked.nextOf table.now) children.first) }
+    ensures { result ≡ seek (map R.Indexed.index_of table.now) index (course (map R.Linked.next_of table.now) children.first) }
 {
     for k in walk(table, children) {
         if table[k].index() == index {

@@ -3,7 +3,7 @@
 ghost use Rattle.std.specs.Prelude.{◌≡◌, ◌==◌};
 ghost use Rattle.document.specs.Calls.{Kind};
 ghost use Rattle.document.specs.Reader.{kin};
-ghost use Rattle.nodes.specs.Marks.{markNumber, unsigned, familyOf, mark_of};
+ghost use Rattle.nodes.specs.Marks.{mark_number, unsigned, family_of, mark_of};
 
 use document::scalars::Scalar;
 
@@ -23,7 +23,7 @@ pub enum Mark {
 impl Mark {
     /// Marks by number, each its own.
     pub fn number(self) -> u64
-        ensures { result ≡ markNumber self }
+        ensures { result ≡ mark_number self }
     {
         match self {
             Mark::Unmarked => 0,
@@ -48,7 +48,7 @@ impl Mark {
 
     /// Whether two marks are the same.
     pub fn is(self, other: Mark) -> bool
-        ensures { result ≡ (markNumber self == markNumber other) }
+        ensures { result ≡ (mark_number self == mark_number other) }
     {
         self.number() == other.number()
     }
@@ -68,7 +68,7 @@ impl Mark {
 
     /// Whether two marks are one kind to a reader, to which signed and unsigned numbers of one width are one.
     pub fn is_kin(self, other: Mark) -> bool
-        ensures answer { result ≡ (markNumber (unsigned self) == markNumber (unsigned other)) }
+        ensures answer { result ≡ (mark_number (unsigned self) == mark_number (unsigned other)) }
         ensures kinds { (J K : Kind) → self ≡ mark_of J → other ≡ mark_of K → result ≡ kin J K }
     {
         self.unsigned().is(other.unsigned())
@@ -76,7 +76,7 @@ impl Mark {
 
     /// How many children come with the mark.
     pub fn family(self) -> u32
-        ensures { result ≡ familyOf self }
+        ensures { result ≡ family_of self }
     {
         match self {
             Mark::Seq => 1,

@@ -2,7 +2,7 @@
 
 ghost use Rattle.std.specs.Prelude.{◌≡◌, ◌<◌, ◌≤◌, [], ◌∷◌, false, length, is_ok, if◌then◌else◌, Ok, Err, nat_lt};
 ghost use Rattle.nodes.specs.declared.places.Full.TheVariants.{Full as full};
-ghost use Rattle.nodes.specs.declared.places.State.TheVariants.{Root as rootState};
+ghost use Rattle.nodes.specs.declared.places.State.TheVariants.{Root as root_state};
 ghost use Rattle.nodes.specs.Stack.{stack, top, settled};
 
 /// At most so many places are open.
@@ -52,7 +52,7 @@ pub enum Full {
 impl Places {
     /// The root's place alone.
     pub fn start() -> Places
-        ensures states { stack result ≡ rootState ∷ [] }
+        ensures states { stack result ≡ root_state ∷ [] }
         ensures depth { result.depth ≡ 1 }
         ensures table { length result.table ≡ 32 }
     {

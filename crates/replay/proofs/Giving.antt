@@ -12,14 +12,14 @@ use Rattle.document.specs.Verdict.{Sizes, verdict}
 use Rattle.ser.specs.declared.desk.Desk.{Desk}
 use Rattle.ser.specs.declared.writer.Writer.{Writer}
 use Rattle.ser.specs.declared.writer.calls.Parts.{Parts}
-use Rattle.ser.specs.Moves.{blankNode}
+use Rattle.ser.specs.Moves.{blank_node}
 use Rattle.ser.specs.Standing.{Stands, Told}
 use Rattle.replay.specs.declared.steps.Step.{Step}
-use Rattle.replay.specs.Given.{calls_of, takes, given, kept, marked, deskOf, sizes_of, sizesFor}
+use Rattle.replay.specs.Given.{calls_of, takes, given, kept, marked, desk_of, sizes_at, sizes_for}
 
 -- a step, where there is none
-abbrev pub noStep : Step
-noStep = record { call = spoken.Bool false; no_size = false; accepted = false }
+abbrev pub no_step : Step
+no_step = record { call = spoken.Bool false; no_size = false; accepted = false }
 
 -- the list once a call was given, as the writer stands for it
 told_given : (sizes : Sizes) (old new : Desk) (done : List Call) (c : Call) (r : Result (Unit {0}) Refusal) → r ≡ verdict sizes done c → Stands old done → Told old new done c r → Stands new (given sizes done c)
@@ -32,16 +32,16 @@ told_given sizes old new done c r e st t = go r refl
 -- The first i steps were given to a writer that stood for cs: it stands for what is kept of them, and they are marked.
 pub record Given (old : Writer) (all : List Step) (w : Writer) (steps : List Step) (i : ℕ) (cs : List Call) : Type 0 where
   pub done : List Call
-  pub stands : Stands (deskOf w) done
-  pub sizes : sizes_of w ≡ sizes_of old
-  pub kept_on : kept (sizes_of old) done (calls_of (drop i all)) ≡ kept (sizes_of old) cs (calls_of all)
-  pub marked_on : take i steps ++ marked (sizes_of old) done (drop i all) ≡ marked (sizes_of old) cs all
+  pub stands : Stands (desk_of w) done
+  pub sizes : sizes_at w ≡ sizes_at old
+  pub kept_on : kept (sizes_at old) done (calls_of (drop i all)) ≡ kept (sizes_at old) cs (calls_of all)
+  pub marked_on : take i steps ++ marked (sizes_at old) done (drop i all) ≡ marked (sizes_at old) cs all
 
 -- .. whatever it stood for; the others are as they were
 pub record Giving (old : Writer) (all : List Step) (w : Writer) (steps : List Step) (i : ℕ) : Type 0 where
   pub size : length steps ≡ length all
   pub rest : drop i steps ≡ drop i all
-  pub went : (cs : List Call) → Stands (deskOf old) cs → Given old all w steps i cs
+  pub went : (cs : List Call) → Stands (desk_of old) cs → Given old all w steps i cs
 
 -- before the first
 pub gives-none : (w : Writer) (all : List Step) → Giving w all w all 0
@@ -49,8 +49,8 @@ gives-none w all = record { size = refl; rest = refl; went = λ cs st. record { 
 
 -- one more
 pub gives-more : (old w v : Writer) (all steps : List Step) (i : ℕ) (r : Result (Unit {0}) Refusal) (b : Bool) → i < length all → Giving old all w steps i
-    → ((cs : List Call) → Stands (deskOf w) cs → Told (deskOf w) (deskOf v) cs (said (get_or steps i noStep).call) r) → b ≡ is_ok r
-    → Giving old all v (set steps i (record { call = (get_or steps i noStep).call; no_size = (get_or steps i noStep).no_size; accepted = b })) (i + 1)
+    → ((cs : List Call) → Stands (desk_of w) cs → Told (desk_of w) (desk_of v) cs (said (get_or steps i no_step).call) r) → b ≡ is_ok r
+    → Giving old all v (set steps i (record { call = (get_or steps i no_step).call; no_size = (get_or steps i no_step).no_size; accepted = b })) (i + 1)
 gives-more old w v all steps i r b l g told accepted =
     record {
       size = length-set steps i s' ∙ g.size;
@@ -59,10 +59,10 @@ gives-more old w v all steps i r b l g told accepted =
     }
   where
     S : Sizes
-    S = sizes_of old
+    S = sizes_at old
 
     s : Step
-    s = get_or steps i noStep
+    s = get_or steps i no_step
 
     s' : Step
     s' = record { call = s.call; no_size = s.no_size; accepted = b }
@@ -72,7 +72,7 @@ gives-more old w v all steps i r b l g told accepted =
 
     -- the step and those after it
     here : drop i all ≡ s ∷ drop (suc i) steps
-    here = sym g.rest ∙ drop-cons steps i noStep within
+    here = sym g.rest ∙ drop-cons steps i no_step within
 
     further : drop (i + 1) steps ≡ drop (i + 1) all
     further = ap (λ k. drop k steps) (add-one i) ∙ ap (drop 1) (sym here) ∙ drop-drop 1 i all
@@ -86,7 +86,7 @@ gives-more old w v all steps i r b l g told accepted =
         let told_is : r ≡ verdict S d.done (said s.call) = t.told ∙ ap (λ z. verdict z d.done (said s.call)) d.sizes in
         record {
           done = given S d.done (said s.call);
-          stands = told_given S (deskOf w) (deskOf v) d.done (said s.call) r told_is d.stands t;
+          stands = told_given S (desk_of w) (desk_of v) d.done (said s.call) r told_is d.stands t;
           sizes = t.sizes ∙ d.sizes;
           kept_on = sym (ap (λ xs. kept S d.done (calls_of xs)) rest_all) ∙ d.kept_on;
           marked_on =
@@ -98,31 +98,31 @@ gives-more old w v all steps i r b l g told accepted =
         }
 
 -- all of them
-pub gives-all : (old w : Writer) (all steps : List Step) (i : ℕ) → length all ≤ i → Giving old all w steps i → (cs : List Call) → Stands (deskOf old) cs
-    → Stands (deskOf w) (kept (sizes_of old) cs (calls_of all)) × (steps ≡ marked (sizes_of old) cs all) × (sizes_of w ≡ sizes_of old)
+pub gives-all : (old w : Writer) (all steps : List Step) (i : ℕ) → length all ≤ i → Giving old all w steps i → (cs : List Call) → Stands (desk_of old) cs
+    → Stands (desk_of w) (kept (sizes_at old) cs (calls_of all)) × (steps ≡ marked (sizes_at old) cs all) × (sizes_at w ≡ sizes_at old)
 gives-all old w all steps i l g cs st =
     let d = g.went cs st in
     let none = drop_of_length-le all l in
-    let kept_is : d.done ≡ kept (sizes_of old) cs (calls_of all) = sym (ap (λ xs. kept (sizes_of old) d.done (calls_of xs)) none) ∙ d.kept_on in
+    let kept_is : d.done ≡ kept (sizes_at old) cs (calls_of all) = sym (ap (λ xs. kept (sizes_at old) d.done (calls_of xs)) none) ∙ d.kept_on in
     let whole : take i steps ≡ steps = take_all i steps (omega (arith, g.size)) in (
-      subst (Stands (deskOf w)) kept_is d.stands,
-      sym (append-nil steps) ∙ ap (λ xs. xs ++ []) (sym whole) ∙ sym (ap (λ xs. take i steps ++ marked (sizes_of old) d.done xs) none) ∙ d.marked_on,
+      subst (Stands (desk_of w)) kept_is d.stands,
+      sym (append-nil steps) ∙ ap (λ xs. xs ++ []) (sym whole) ∙ sym (ap (λ xs. take i steps ++ marked (sizes_at old) d.done xs) none) ∙ d.marked_on,
       d.sizes,
     )
 
 -- a new writer has tables of the same lengths
-pub new-sizes : (w : Writer) (t : Parts) → vec_items w.desk.tables.nodes ≡ cond (ltb 1 (vec_len t.nodes)) (set (vec_items t.nodes) 1 blankNode) (vec_items t.nodes) → w.desk.tables.cells ≡ t.cells → w.desk.tables.text ≡ t.text → sizes_of w ≡ sizesFor t
+pub new-sizes : (w : Writer) (t : Parts) → vec_items w.desk.tables.nodes ≡ cond (ltb 1 (vec_len t.nodes)) (set (vec_items t.nodes) 1 blank_node) (vec_items t.nodes) → w.desk.tables.cells ≡ t.cells → w.desk.tables.text ≡ t.text → sizes_at w ≡ sizes_for t
 new-sizes w t n c x =
     ap (λ k. let z : Sizes = record { nodes = k; cells = length (vec_items w.desk.tables.cells); text = length (vec_items w.desk.tables.text) } in z) (ap length n ∙ same (ltb 1 (vec_len t.nodes)))
     ∙ ap (λ v. let z : Sizes = record { nodes = length (vec_items t.nodes); cells = length (vec_items v); text = length (vec_items w.desk.tables.text) } in z) c
     ∙ ap (λ v. let z : Sizes = record { nodes = length (vec_items t.nodes); cells = length (vec_items t.cells); text = length (vec_items v) } in z) x
   where
-    same : (b : Bool) → length (cond b (set (vec_items t.nodes) 1 blankNode) (vec_items t.nodes)) ≡ length (vec_items t.nodes)
-    same true = length-set (vec_items t.nodes) 1 blankNode
+    same : (b : Bool) → length (cond b (set (vec_items t.nodes) 1 blank_node) (vec_items t.nodes)) ≡ length (vec_items t.nodes)
+    same true = length-set (vec_items t.nodes) 1 blank_node
     same false = refl
 
 -- .. and gets them back so
-pub back-sizes : (w : Writer) (d : Desk) (t u : Parts) → d ≡ deskOf w → u.nodes ≡ d.tables.nodes → u.cells ≡ d.tables.cells → u.text ≡ d.tables.text → sizes_of w ≡ sizesFor t → sizesFor u ≡ sizesFor t
+pub back-sizes : (w : Writer) (d : Desk) (t u : Parts) → d ≡ desk_of w → u.nodes ≡ d.tables.nodes → u.cells ≡ d.tables.cells → u.text ≡ d.tables.text → sizes_at w ≡ sizes_for t → sizes_for u ≡ sizes_for t
 back-sizes w d t u e n c x s =
     ap (λ v. let z : Sizes = record { nodes = length (vec_items v); cells = length (vec_items u.cells); text = length (vec_items u.text) } in z) n
     ∙ ap (λ v. let z : Sizes = record { nodes = length (vec_items d.tables.nodes); cells = length (vec_items v); text = length (vec_items u.text) } in z) c

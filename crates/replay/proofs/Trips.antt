@@ -8,24 +8,24 @@ use Rattle.document.specs.declared.refusals.Refusal.TheVariants as refusals
 use Rattle.document.specs.declared.questions.Question.{Question}
 use Rattle.document.specs.Calls.{Call, val, end}
 use Rattle.document.specs.Places.{Place, start}
-use Rattle.document.specs.Trace.{trace, placesAfter}
+use Rattle.document.specs.Trace.{trace, places_after}
 use Rattle.document.specs.Bytes.{bytes}
 use Rattle.document.specs.Tables.{cells_of}
 use Rattle.document.specs.Said.{said, asked}
 use Rattle.document.specs.Verdict.{Sizes, Accepted, Done}
-use Rattle.document.specs.WriteOut.{noneOpen}
+use Rattle.document.specs.WriteOut.{none_open}
 use Rattle.document.specs.Reader.{Reading, Reply, reply, refuse, begin, answer}
 use Rattle.document.specs.Replay.{Replay, heard, stopped, hearing, ending, also, going, replay, finish}
 use Rattle.document.specs.Theorems.{Asks, Asked, Replays, AskedAlike, Faithful}
 use Rattle.document.proofs.Accepted.{replays, faithful}
-use Rattle.ser.specs.Out.{begins, wrote, outputAfter}
+use Rattle.ser.specs.Out.{begins, wrote, output_after}
 use Rattle.ser.specs.Standing.{WrittenOut}
 use Rattle.de.specs.Standing.{ended}
 use Rattle.replay.specs.declared.steps.Step.{Step}
 use Rattle.replay.specs.declared.trip.Ending.{Ending}
 use Rattle.replay.specs.declared.trip.Ending.TheVariants.{Same}
 use Rattle.replay.specs.Given.{calls_of, takes, given, kept, marked}
-use Rattle.replay.specs.Listening.{Asking, askings, endingOf, Listened, Listens}
+use Rattle.replay.specs.Listening.{Asking, askings, ending_of, Listened, Listens}
 use Rattle.replay.specs.declared.trip.Heard.{Heard}
 use Rattle.replay.specs.Trips.{called, FlagFits, Flagged, ReadBack, ComesBack}
 use Rattle.replay.specs.Compared.{WroteBoth, SameBytes, ToldApart}
@@ -68,7 +68,7 @@ first_heard c d (heard ds (b ∷ bs)) cs e = (cc, cc)
 first_heard c d (stopped r) cs e = (cc, cc)
 
 -- where nothing is left, finish is accepted
-ends_same : (fs : List Place) (bs : List ℕ) → finish (ending fs bs) ≡ heard [] [] → endingOf (ended fs bs) ≡ Same
+ends_same : (fs : List Place) (bs : List ℕ) → finish (ending fs bs) ≡ heard [] [] → ending_of (ended fs bs) ≡ Same
 ends_same [] [] e = refl
 ends_same [] (b ∷ bs) e = cc
 ends_same (f ∷ fs) bs e = cc
@@ -108,8 +108,8 @@ bytes_ok true false n image zeros output e = cc
 bytes_ok false room n image zeros output e = cc
 
 -- .. and the document is complete
-wrote_ok : (fs : List Place) (cells n : ℕ) (image scratch output : List ℕ) → Ok n ≡ wrote (noneOpen fs) cells image scratch output
-    → (fs ≡ []) × (n ≡ length image) × (take n (outputAfter (begins (noneOpen fs) cells scratch) image output) ≡ image)
+wrote_ok : (fs : List Place) (cells n : ℕ) (image scratch output : List ℕ) → Ok n ≡ wrote (none_open fs) cells image scratch output
+    → (fs ≡ []) × (n ≡ length image) × (take n (output_after (begins (none_open fs) cells scratch) image output) ≡ image)
 wrote_ok (f ∷ fs) cells n image scratch output e = cc
 wrote_ok [] cells n image scratch output e =
     let (count, part) = bytes_ok (leb cells (length scratch)) (leb (length image) (length output)) n image (replicate (length output) 0) output e in (refl, count, part)
@@ -118,7 +118,7 @@ wrote_ok [] cells n image scratch output e =
 pub written_ok : (col : Meaning) (cs : List Call) (scratch scratch' output output' : List ℕ) (r : Result ℕ Refusal) (n : ℕ) → WrittenOut col cs scratch scratch' output output' r → r ≡ Ok n
     → Done cs × (n ≡ length (bytes col cs)) × (take n output' ≡ bytes col cs)
 written_ok col cs scratch scratch' output output' r n w ok =
-    let (d, count, part) = wrote_ok (placesAfter start cs) (cells_of (trace start cs)) n (bytes col cs) scratch output (sym ok ∙ w.answer) in (d, count, ap (take n) w.written ∙ part)
+    let (d, count, part) = wrote_ok (places_after start cs) (cells_of (trace start cs)) n (bytes col cs) scratch output (sym ok ∙ w.answer) in (d, count, ap (take n) w.written ∙ part)
 
 -- ---- told apart by bytes
 

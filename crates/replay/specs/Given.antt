@@ -7,7 +7,7 @@ use Rattle.ser.specs.declared.desk.Desk.{Desk}
 use Rattle.ser.specs.declared.writer.Writer.{Writer}
 use Rattle.ser.specs.declared.writer.calls.Parts.{Parts}
 use Rattle.ser.specs.Moves.{sheets}
-use Rattle.ser.specs.Tables.{sizesOf}
+use Rattle.ser.specs.Tables.{sizes_of}
 use Rattle.replay.specs.declared.steps.Step.{Step}
 
 -- the calls of some steps
@@ -28,15 +28,15 @@ kept sizes done [] = done
 kept sizes done (c ∷ cs) = kept sizes (given sizes done c) cs
 
 -- a writer's desk, and the lengths of its tables
-abbrev pub deskOf : Writer → Desk
-deskOf w = w.desk
+abbrev pub desk_of : Writer → Desk
+desk_of w = w.desk
 
-abbrev pub sizes_of : Writer → Sizes
-sizes_of w = sizesOf (sheets w.desk.tables)
+abbrev pub sizes_at : Writer → Sizes
+sizes_at w = sizes_of (sheets w.desk.tables)
 
 -- the lengths of tables
-abbrev pub sizesFor : Parts → Sizes
-sizesFor t = record { nodes = length (vec_items t.nodes); cells = length (vec_items t.cells); text = length (vec_items t.text) }
+abbrev pub sizes_for : Parts → Sizes
+sizes_for t = record { nodes = length (vec_items t.nodes); cells = length (vec_items t.cells); text = length (vec_items t.text) }
 
 -- the steps, each marked with whether its call was accepted
 abbrev pub marked : Sizes → List Call → List Step → List Step

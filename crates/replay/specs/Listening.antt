@@ -22,9 +22,9 @@ askings [] = []
 askings (s ∷ ss) = cond s.accepted (record { call = said s.call; flag = s.no_size } ∷ askings ss) (askings ss)
 
 -- how finish ends it
-abbrev pub endingOf : Result (Unit {0}) Refusal → Ending
-endingOf (Ok u) = Same
-endingOf (Err e) = Refused e
+abbrev pub ending_of : Result (Unit {0}) Refusal → Ending
+ending_of (Ok u) = Same
+ending_of (Err e) = Refused e
 
 -- One question: refused, that ends it; answered by the call's value, as it is heard in the input, the next ones follow; and another value ends it too.
 abbrev pub Listened : List ℕ → Call → (Reading → ℕ → Type 0) → ℕ → Ending → Reply → Type 0
@@ -34,5 +34,5 @@ Listened input c More n e (reply d place R) =
 
 -- What is heard of a reader that stands for a reading of the input, asked for each of these calls in turn: n of them, and then it ended so.
 abbrev pub Listens : Meaning → List ℕ → Reading → List Asking → ℕ → Ending → Type 0
-Listens col input R [] n e = (n ≡ 0) × (e ≡ endingOf (finishing R))
+Listens col input R [] n e = (n ≡ 0) × (e ≡ ending_of (finishing R))
 Listens col input R (s ∷ ss) n e = Listened input s.call (λ R' m. Listens col input R' ss m e) n e (answer col R.store R.places (asked s.flag s.call))

@@ -1,7 +1,7 @@
 //! Two lists of calls, told apart by their bytes.
 
 ghost use Rattle.std.specs.Prelude.{◌≡◌, ◌≤◌, List, [], length, IfOk};
-ghost use Rattle.replay.specs.Given.{calls_of, kept, marked, sizesFor};
+ghost use Rattle.replay.specs.Given.{calls_of, kept, marked, sizes_for};
 ghost use Rattle.replay.specs.Compared.{WroteBoth, SameBytes, ToldApart};
 
 use crate::says::same;
@@ -49,12 +49,12 @@ pub fn same_bytes<C: Column>(
     output: &mut [u8],
     second_output: &mut [u8],
 ) -> Compared
-    ensures one { one.new ≡ marked (sizesFor tables) [] one.old }
-    ensures other { other.new ≡ marked (sizesFor tables) [] other.old }
-    ensures written { WroteBoth (C.meaning kind.now) (kept (sizesFor tables) [] (calls_of one.old)) (kept (sizesFor tables) [] (calls_of other.old)) scratch.old scratch.new output.old output.new second_output.old second_output.new result.first result.second }
+    ensures one { one.new ≡ marked (sizes_for tables) [] one.old }
+    ensures other { other.new ≡ marked (sizes_for tables) [] other.old }
+    ensures written { WroteBoth (C.meaning kind.now) (kept (sizes_for tables) [] (calls_of one.old)) (kept (sizes_for tables) [] (calls_of other.old)) scratch.old scratch.new output.old output.new second_output.old second_output.new result.first result.second }
     ensures same { SameBytes result.first result.second output.new second_output.new result.same }
-    ensures told_apart { ToldApart (kept (sizesFor tables) [] (calls_of one.old)) (kept (sizesFor tables) [] (calls_of other.old)) result.same }
-    ensures tables { sizesFor result.tables ≡ sizesFor tables }
+    ensures told_apart { ToldApart (kept (sizes_for tables) [] (calls_of one.old)) (kept (sizes_for tables) [] (calls_of other.old)) result.same }
+    ensures tables { sizes_for result.tables ≡ sizes_for tables }
 {
     let Written {
         answer: first,

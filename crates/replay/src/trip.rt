@@ -4,7 +4,7 @@ ghost use Rattle.std.specs.Prelude.{◌≡◌, List, [], take, vec_len};
 ghost use Rattle.document.specs.Reader.{Reading, begin};
 ghost use Rattle.de.specs.Readers.{StandsFor, KeepsLengths};
 ghost use Rattle.ser.specs.Standing.{WrittenOut};
-ghost use Rattle.replay.specs.Given.{calls_of, kept, marked, sizesFor};
+ghost use Rattle.replay.specs.Given.{calls_of, kept, marked, sizes_for};
 ghost use Rattle.replay.specs.Listening.{askings, Listens};
 ghost use Rattle.replay.specs.Trips.{ReadBack, ComesBack};
 
@@ -92,11 +92,11 @@ pub fn round_trip<C: Column>(
     scratch: &mut [u64],
     output: &mut [u8],
 ) -> Trip
-    ensures steps { steps.new ≡ marked (sizesFor writer) [] steps.old }
-    ensures written { WrittenOut (C.meaning kind.now) (kept (sizesFor writer) [] (calls_of steps.old)) scratch.old scratch.new output.old output.new result.written }
+    ensures steps { steps.new ≡ marked (sizes_for writer) [] steps.old }
+    ensures written { WrittenOut (C.meaning kind.now) (kept (sizes_for writer) [] (calls_of steps.old)) scratch.old scratch.new output.old output.new result.written }
     ensures heard { ReadBack (C.meaning kind.now) output.new (vec_len reader.nodes) (vec_len reader.slots) (askings steps.new) result.written result.heard }
-    ensures comes_back { ComesBack (sizesFor writer) (vec_len reader.nodes) (vec_len reader.slots) (askings steps.new) result.written result.heard }
-    ensures writer { sizesFor result.writer ≡ sizesFor writer }
+    ensures comes_back { ComesBack (sizes_for writer) (vec_len reader.nodes) (vec_len reader.slots) (askings steps.new) result.written result.heard }
+    ensures writer { sizes_for result.writer ≡ sizes_for writer }
     ensures reader_nodes { vec_len result.reader.nodes ≡ vec_len reader.nodes }
     ensures reader_slots { vec_len result.reader.slots ≡ vec_len reader.slots }
 {

@@ -4,7 +4,7 @@ ghost use Rattle.std.specs.Prelude.{◌≡◌, List, [], length, vec_len};
 ghost use Rattle.document.specs.Calls.{Call as Said};
 ghost use Rattle.document.specs.Verdict.{Accepted};
 ghost use Rattle.ser.specs.Standing.{Stands, WrittenOut};
-ghost use Rattle.replay.specs.Given.{calls_of, kept, marked, deskOf, sizes_of, sizesFor};
+ghost use Rattle.replay.specs.Given.{calls_of, kept, marked, desk_of, sizes_at, sizes_for};
 
 use crate::steps::Step;
 use column::interface::Column;
@@ -21,9 +21,9 @@ pub struct Written {
 
 /// Gives each call to the writer, and marks those that it accepts.
 fn give(writer: &mut Writer, steps: &mut [Step<'_>])
-    ensures stands { (cs : List Said) → Stands (deskOf writer.old) cs → Stands (deskOf writer.new) (kept (sizes_of writer.old) cs (calls_of steps.old)) }
-    ensures steps { (cs : List Said) → Stands (deskOf writer.old) cs → steps.new ≡ marked (sizes_of writer.old) cs steps.old }
-    ensures sizes { (cs : List Said) → Stands (deskOf writer.old) cs → sizes_of writer.new ≡ sizes_of writer.old }
+    ensures stands { (cs : List Said) → Stands (desk_of writer.old) cs → Stands (desk_of writer.new) (kept (sizes_at writer.old) cs (calls_of steps.old)) }
+    ensures steps { (cs : List Said) → Stands (desk_of writer.old) cs → steps.new ≡ marked (sizes_at writer.old) cs steps.old }
+    ensures sizes { (cs : List Said) → Stands (desk_of writer.old) cs → sizes_at writer.new ≡ sizes_at writer.old }
 {
     for step in steps.iter_mut() {
         step.accepted = writer.call(step.call).is_ok();
@@ -38,10 +38,10 @@ pub fn write_steps<C: Column>(
     scratch: &mut [u64],
     output: &mut [u8],
 ) -> Written
-    ensures steps { steps.new ≡ marked (sizesFor tables) [] steps.old }
-    ensures accepted { Accepted (sizesFor tables) (kept (sizesFor tables) [] (calls_of steps.old)) }
-    ensures written { WrittenOut (C.meaning kind.now) (kept (sizesFor tables) [] (calls_of steps.old)) scratch.old scratch.new output.old output.new result.answer }
-    ensures tables { sizesFor result.tables ≡ sizesFor tables }
+    ensures steps { steps.new ≡ marked (sizes_for tables) [] steps.old }
+    ensures accepted { Accepted (sizes_for tables) (kept (sizes_for tables) [] (calls_of steps.old)) }
+    ensures written { WrittenOut (C.meaning kind.now) (kept (sizes_for tables) [] (calls_of steps.old)) scratch.old scratch.new output.old output.new result.answer }
+    ensures tables { sizes_for result.tables ≡ sizes_for tables }
 {
     let Parts { nodes, cells, text } = tables;
     let mut writer = Writer::new(nodes, cells, text);

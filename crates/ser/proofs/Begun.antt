@@ -10,11 +10,11 @@ use Rattle.nodes.specs.Placed.{Open}
 use Rattle.nodes.specs.Homes.{Home, ordinal}
 use Rattle.ser.specs.declared.records.Node.{Node}
 use Rattle.ser.specs.declared.desk.Desk.{Desk}
-use Rattle.ser.specs.Moves.{blankNode, sheets, node}
+use Rattle.ser.specs.Moves.{blank_node, sheets, node}
 use Rattle.ser.specs.Standing.{Stands}
 
 -- a desk whose tables have the root's record alone, blank, and whose only open place is the root's
-pub begun : (d : Desk) → d.tables.used ≡ 2 → d.tables.taken ≡ 1 → d.tables.filled ≡ 0 → d.tables.marked ≡ 0 → node (sheets d.tables) 1 ≡ blankNode
+pub begun : (d : Desk) → d.tables.used ≡ 2 → d.tables.taken ≡ 1 → d.tables.filled ≡ 0 → d.tables.marked ≡ 0 → node (sheets d.tables) 1 ≡ blank_node
     → d.places.depth ≡ 1 → length d.places.table ≡ 32 → stack d.places ≡ states.Root ∷ [] → Stands d []
 begun d used taken filled marked blank depth long first =
     record {
@@ -44,15 +44,15 @@ begun d used taken filled marked blank depth long first =
     one : (r : ℕ) (p : Path) → Home (root ∷ []) r p → r ≡ 1
     one r p h = omega (arith, h.0, h.1)
 
-    is : (r : ℕ) (p : Path) → Home (root ∷ []) r p → node (sheets d.tables) r ≡ blankNode
+    is : (r : ℕ) (p : Path) → Home (root ∷ []) r p → node (sheets d.tables) r ≡ blank_node
     is r p h = rw (one r p h) blank
 
     rooted : (r : ℕ) (p : Path) → Home (root ∷ []) r p → root ≡ p
     rooted r p h = rw (one r p h) at h.2
 
 -- the record of a new root is blank, where the table has one
-pub root-blank : (ns : List Node) (n : ℕ) → n ≡ length ns → get_or (cond (ltb 1 n) (set ns 1 blankNode) ns) 1 blankNode ≡ blankNode
+pub root-blank : (ns : List Node) (n : ℕ) → n ≡ length ns → get_or (cond (ltb 1 n) (set ns 1 blank_node) ns) 1 blank_node ≡ blank_node
 root-blank ns n e = ⊎_elim
-    (λ l. ap (λ xs. get_or xs 1 blankNode) (cond-true (ltb 1 n) (set ns 1 blankNode) ns (lt-ltb 1 n l)) ∙ get_or-set_same ns 1 blankNode blankNode (omega arith))
-    (λ l. ap (λ xs. get_or xs 1 blankNode) (cond-false (ltb 1 n) (set ns 1 blankNode) ns (le-ltb 1 n l)) ∙ get_or_past ns 1 blankNode (omega arith))
+    (λ l. ap (λ xs. get_or xs 1 blank_node) (cond-true (ltb 1 n) (set ns 1 blank_node) ns (lt-ltb 1 n l)) ∙ get_or-set_same ns 1 blank_node blank_node (omega arith))
+    (λ l. ap (λ xs. get_or xs 1 blank_node) (cond-false (ltb 1 n) (set ns 1 blank_node) ns (le-ltb 1 n l)) ∙ get_or_past ns 1 blank_node (omega arith))
     (cases_lt 1 n)

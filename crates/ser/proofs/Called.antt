@@ -8,15 +8,15 @@ use Rattle.document.specs.Calls.{scalar, text, unit, none, some, variant, seq, m
 use Rattle.nodes.specs.declared.places.State.{State}
 use Rattle.nodes.specs.declared.places.State.TheVariants.{Root, Items, Keys, Vals, Fields, Lone, One, Closing}
 use Rattle.nodes.specs.declared.places.Places.{Places}
-use Rattle.nodes.specs.Ahead.{Ahead, nowhere, there, ahead, isFull}
+use Rattle.nodes.specs.Ahead.{Ahead, nowhere, there, ahead, is_full}
 use Rattle.nodes.specs.Stack.{waiting, stack, top, settled, opening, rest}
 use Rattle.nodes.proofs.Stacked.{stack-turned, turned-same}
 use Rattle.nodes.proofs.Placing.{length-levels}
 use Rattle.ser.specs.declared.desk.Desk.{Desk}
-use Rattle.ser.specs.Brings.{branching, isOpening}
-use Rattle.ser.specs.Moves.{Sheets, sheets, branchIn, entered, enteredChild}
-use Rattle.ser.specs.Tables.{weighedAt}
-use Rattle.ser.specs.Steps.{openedAt, entered_at, answering, entering, Outcome, declined, moved, counted, begun, valued, onAhead, onValue, outcome, isDeep, asLent, Took, Did, calling}
+use Rattle.ser.specs.Brings.{branching, is_opening}
+use Rattle.ser.specs.Moves.{Sheets, sheets, branch_in, entered, entered_child}
+use Rattle.ser.specs.Tables.{weighed_at}
+use Rattle.ser.specs.Steps.{opened_at, entered_at, answering, entering, Outcome, declined, moved, counted, begun, valued, on_ahead, on_value, outcome, is_deep, as_lent, Took, Did, calling}
 
 -- of d open places, what is opened is at most the 32nd
 abbrev pub Roomy : ℕ → Outcome → Type 0
@@ -24,7 +24,7 @@ Roomy d (declined e) = Unit {0}
 Roomy d (moved s T opened) = length (opening opened []) + d ≤ 32
 
 -- an opening call opens one place, another none
-pub opened_one : (T : Sheets) (r k : ℕ) (c : Call) → length (opening (openedAt T r k c) []) ≡ cond (isOpening c) 1 0
+pub opened_one : (T : Sheets) (r k : ℕ) (c : Call) → length (opening (opened_at T r k c) []) ≡ cond (is_opening c) 1 0
 opened_one T r k (val (scalar s b)) = refl
 opened_one T r k (val (text bs)) = refl
 opened_one T r k (val unit) = refl
@@ -42,12 +42,12 @@ answering-roomy d (Ok u) s T o h = h
 answering-roomy d (Err e) s T o h = tt
 
 -- a value in a place, unless it is one too deep
-pub valued-roomy : (d : ℕ) (deep : Bool) (T : Sheets) (r : ℕ) (s : State) (c : Call) → d ≤ 32 → deep ≡ (isOpening c && eqb d 32) → Roomy d (valued deep T r s c)
+pub valued-roomy : (d : ℕ) (deep : Bool) (T : Sheets) (r : ℕ) (s : State) (c : Call) → d ≤ 32 → deep ≡ (is_opening c && eqb d 32) → Roomy d (valued deep T r s c)
 unfolding entering
 valued-roomy d true T r s c h e = tt
 valued-roomy d false T r s c h e =
-    let one = opened_one (entered r (branchIn T r (branching c)) c T) r (enteredChild r (branchIn T r (branching c)) c T) c in
-    answering-roomy d (weighedAt T r (branchIn T r (branching c)) c) s (entered_at T r c) _ (grind (arith, nat_tests))
+    let one = opened_one (entered r (branch_in T r (branching c)) c T) r (entered_child r (branch_in T r (branching c)) c T) c in
+    answering-roomy d (weighed_at T r (branch_in T r (branching c)) c) s (entered_at T r c) _ (grind (arith, nat_tests))
 
 -- the root's value
 pub begun-roomy : (d : ℕ) (T : Sheets) (x : Result (Option State) Refusal) → d ≤ 32 → Roomy d (begun T x)
@@ -55,7 +55,7 @@ begun-roomy d T (Ok opened) h = omega arith
 begun-roomy d T (Err e) h = tt
 
 -- a value, by what the place waits for
-pub ahead-roomy : (d : ℕ) (deep : Bool) (T : Sheets) (a : Ahead) (c : Call) → d ≤ 32 → deep ≡ (isOpening c && eqb d 32) → Roomy d (onAhead deep T a c)
+pub ahead-roomy : (d : ℕ) (deep : Bool) (T : Sheets) (a : Ahead) (c : Call) → d ≤ 32 → deep ≡ (is_opening c && eqb d 32) → Roomy d (on_ahead deep T a c)
 ahead-roomy d deep T nowhere c h e = tt
 ahead-roomy d deep T (there r s) c h e = valued-roomy d deep T r s c h e
 
@@ -65,20 +65,20 @@ end-roomy d true T h = omega arith
 end-roomy d false T h = tt
 
 -- a value in each state
-pub onValue-roomy : (d : ℕ) (deep : Bool) (T : Sheets) (s : State) (c : Call) → d ≤ 32 → deep ≡ (isOpening c && eqb d 32) → Roomy d (onValue deep T s c)
-onValue-roomy d deep T Root c h e = begun-roomy d (entered_at T 1 c) (entering T 1 c) h
-onValue-roomy d deep T (Items r n) c h e = ahead-roomy d deep T (ahead (Items r n)) c h e
-onValue-roomy d deep T (Keys r n) c h e = ahead-roomy d deep T (ahead (Keys r n)) c h e
-onValue-roomy d deep T (Vals r n) c h e = ahead-roomy d deep T (ahead (Vals r n)) c h e
-onValue-roomy d deep T (Fields r n) c h e = ahead-roomy d deep T (ahead (Fields r n)) c h e
-onValue-roomy d deep T (Lone r n) c h e = ahead-roomy d deep T (ahead (Lone r n)) c h e
-onValue-roomy d deep T (One r) c h e = ahead-roomy d deep T (ahead (One r)) c h e
-onValue-roomy d deep T Closing c h e = ahead-roomy d deep T (ahead Closing) c h e
+pub on_value-roomy : (d : ℕ) (deep : Bool) (T : Sheets) (s : State) (c : Call) → d ≤ 32 → deep ≡ (is_opening c && eqb d 32) → Roomy d (on_value deep T s c)
+on_value-roomy d deep T Root c h e = begun-roomy d (entered_at T 1 c) (entering T 1 c) h
+on_value-roomy d deep T (Items r n) c h e = ahead-roomy d deep T (ahead (Items r n)) c h e
+on_value-roomy d deep T (Keys r n) c h e = ahead-roomy d deep T (ahead (Keys r n)) c h e
+on_value-roomy d deep T (Vals r n) c h e = ahead-roomy d deep T (ahead (Vals r n)) c h e
+on_value-roomy d deep T (Fields r n) c h e = ahead-roomy d deep T (ahead (Fields r n)) c h e
+on_value-roomy d deep T (Lone r n) c h e = ahead-roomy d deep T (ahead (Lone r n)) c h e
+on_value-roomy d deep T (One r) c h e = ahead-roomy d deep T (ahead (One r)) c h e
+on_value-roomy d deep T Closing c h e = ahead-roomy d deep T (ahead Closing) c h e
 
 -- a call in each state
-pub outcome-roomy : (d : ℕ) (deep : Bool) (T : Sheets) (s : State) (c : Call) → d ≤ 32 → deep ≡ (isOpening c && eqb d 32) → Roomy d (outcome deep T s c)
-outcome-roomy d deep T s (val v) h e = onValue-roomy d deep T s (val v) h e
-outcome-roomy d deep T s end h e = end-roomy d (isFull s) T h
+pub outcome-roomy : (d : ℕ) (deep : Bool) (T : Sheets) (s : State) (c : Call) → d ≤ 32 → deep ≡ (is_opening c && eqb d 32) → Roomy d (outcome deep T s c)
+outcome-roomy d deep T s (val v) h e = on_value-roomy d deep T s (val v) h e
+outcome-roomy d deep T s end h e = end-roomy d (is_full s) T h
 
 -- a place that is opened is one more
 pub opened-depth : (o : Option State) (more taken : Places) → stack more ≡ opening o (stack taken) → more.depth ≡ length (opening o []) + taken.depth
@@ -86,7 +86,7 @@ opened-depth options.None more taken e = omega (arith, sym (length-levels more.t
 opened-depth (options.Some s) more taken e = omega (arith, sym (length-levels more.table more.depth) ∙ ap length e ∙ ap suc (length-levels taken.table taken.depth))
 
 -- a step that was refused left the desk as it was
-unmoved : (d : Desk) → asLent d ≡ d
+unmoved : (d : Desk) → as_lent d ≡ d
 unmoved d = ap (λ (q : Places). record { tables = d.tables; places = q }) (turned-same d.places)
 
 -- a refused step is a refused call
@@ -103,7 +103,7 @@ took-room old new opened (moved s T x) h t =
     omega (arith, ap (λ (p : Places). p.depth) t.2)
 
 -- where a place is open, a call is the step's outcome
-pub called : (d : Desk) (deep : Bool) (c : Call) → 0 < d.places.depth → deep ≡ isDeep d c → outcome deep (sheets d.tables) (top d.places) c ≡ calling d c
+pub called : (d : Desk) (deep : Bool) (c : Call) → 0 < d.places.depth → deep ≡ is_deep d c → outcome deep (sheets d.tables) (top d.places) c ≡ calling d c
 called d deep c h e = ap (λ b. outcome b (sheets d.tables) (top d.places) c) e ∙ grind (arith, nat_tests)
 
 -- the step, the place opened and the places settled: what the call did

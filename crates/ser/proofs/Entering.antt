@@ -11,20 +11,20 @@ use Rattle.document.specs.Calls.{total, extent, Value, scalar, text, unit, none,
 use Rattle.document.specs.Nodes.{Path, root, ◌▹◌, Step, alt, same}
 use Rattle.document.specs.Entries.{Entry, entry, at}
 use Rattle.document.specs.Bytes.{firsts}
-use Rattle.document.specs.Tables.{cells, lettersOf, unbranched, branch, branchOf}
-use Rattle.document.specs.Records.{nodesOf, brought, marked, newChild, had, times}
+use Rattle.document.specs.Tables.{cells, letters_of, unbranched, branch, branch_of}
+use Rattle.document.specs.Records.{nodes_of, brought, marked, new_child, had, times}
 use Rattle.document.proofs.Paths.{same_self, same_true, not-child, total-append}
-use Rattle.document.proofs.Between.{isNil, at_on, at_off}
+use Rattle.document.proofs.Between.{is_nil, at_on, at_off}
 use Rattle.document.proofs.Allotting.{once, length-brought}
 use Rattle.document.proofs.Growth.{nodes-snoc, firsts-snoc, firsts-fewer, firsts-few, unmarked-childless, branch-there, letters-more}
 use Rattle.nodes.specs.declared.marks.Mark.{Mark}
-use Rattle.nodes.specs.Marks.{markNumber, familyOf, mark_of, markAt}
-use Rattle.nodes.specs.Homes.{Home, ordinal, isChild, places}
+use Rattle.nodes.specs.Marks.{mark_number, family_of, mark_of, mark_at}
+use Rattle.nodes.specs.Homes.{Home, ordinal, is_child, places}
 use Rattle.nodes.proofs.Homes.{home-times}
 use Rattle.nodes.proofs.Homes.{home-more, home-new}
 use Rattle.nodes.proofs.Families.{family-takes, brought-at}
 use Rattle.ser.specs.Brings.{index_of}
-use Rattle.ser.specs.Moves.{Sheets, node, isFresh, withMark, withOrder, named, touched, branched, branchThen}
+use Rattle.ser.specs.Moves.{Sheets, node, is_fresh, with_mark, with_order, named, touched, branched, branch_then}
 use Rattle.ser.specs.Held.{Slot, slotted, slots_of, is_held, Holding, Holds}
 use Rattle.ser.proofs.Moving.{Alone, put_at, put-there, put-elsewhere, names, spawns, stored, stores}
 use Rattle.ser.proofs.Growing.{alone_of, alone-front, places-none, childless, cellless, slots-snoc, brought-kin, New, brothers, grows}
@@ -38,7 +38,7 @@ recast T ns ms mark mark' sum sum' sl sl' fs fs' letters letters' e m s c f l H 
     (record { used = H.used; taken = H.taken; filled = H.filled; marked = H.marked; marks = λ r p h. H.marks r p h ∙ m p; sums = λ r p h. H.sums r p h ∙ s p; indices = H.indices; children = H.children; cells = H.cells; values = H.values; order = H.order }))))
 
 -- a marked node is not without a value
-pub some-mark : (K : Kind) → eqb (markNumber (mark_of K)) 0 ≡ false
+pub some-mark : (K : Kind) → eqb (mark_number (mark_of K)) 0 ≡ false
 some-mark (SCALAR k) = ne_eqb _ 0 (λ e. omega arith)
 some-mark TEXT = refl
 some-mark SEQ = refl
@@ -48,7 +48,7 @@ some-mark UNIT = refl
 some-mark (TUPLE n) = ne_eqb _ 0 (λ e. omega arith)
 
 -- the index of a value, as the definitions and as the code have it
-pub indexed : (v : Value) → ((branchOf v ≡ unbranched) × (index_of v ≡ options.None)) ⊎ ((i : ℕ) × (branchOf v ≡ branch i) × (index_of v ≡ options.Some i))
+pub indexed : (v : Value) → ((branch_of v ≡ unbranched) × (index_of v ≡ options.None)) ⊎ ((i : ℕ) × (branch_of v ≡ branch i) × (index_of v ≡ options.Some i))
 indexed (scalar k b) = inl (refl, refl)
 indexed (text bs) = inl (refl, refl)
 indexed unit = inl (refl, refl)
@@ -63,9 +63,9 @@ indexed (tuple n) = inl (refl, refl)
 abbrev pub Found : List Path → ℕ → Path → Value → Type 0
 Found ns k p v = (i : ℕ) → index_of v ≡ options.Some i → ((times (p ▹ alt i) ns ≡ 0) × (k ≡ 0)) ⊎ Home ns k (p ▹ alt i)
 
-module _ (T : Sheets) (ts : List Entry) (H : Holds T ts) (r : ℕ) (p : Path) (home : Home (nodesOf ts) r p) (v : Value) (seen : (q : Path) → at q ts ≢ [] → times q (nodesOf ts) ≡ 1) where
+module _ (T : Sheets) (ts : List Entry) (H : Holds T ts) (r : ℕ) (p : Path) (home : Home (nodes_of ts) r p) (v : Value) (seen : (q : Path) → at q ts ≢ [] → times q (nodes_of ts) ≡ 1) where
   -- a node without a record has no value
-  unseen : (q : Path) → times q (nodesOf ts) ≡ 0 → at q ts ≡ []
+  unseen : (q : Path) → times q (nodes_of ts) ≡ 0 → at q ts ≡ []
   unseen q z = go (at q ts) refl
     where
       go : (vs : List Value) → at q ts ≡ vs → at q ts ≡ []
@@ -84,16 +84,16 @@ module _ (T : Sheets) (ts : List Entry) (H : Holds T ts) (r : ℕ) (p : Path) (h
   not_own : (s : Step) → p ≡ p ▹ s → ⊥
   not_own s e = let n = not-child p s in let k = ap (same p) (sym e) ∙ same_self p in let w : ◌≡◌ {A = ℕ} 0 1 = cc in omega arith
 
-  once-here : times p (nodesOf ts) ≡ 1
-  once-here = omega (arith, once p ts, home-times (nodesOf ts) r p home)
+  once-here : times p (nodes_of ts) ≡ 1
+  once-here = omega (arith, once p ts, home-times (nodes_of ts) r p home)
 
   -- a child without a record is new
-  new-child : (mark : Path → Mark) → ((q : Path) → (p ≡ q → ⊥) → mark q ≡ markAt (at q ts)) → (s : Step) → times (p ▹ s) (nodesOf ts) ≡ 0 → New p (nodesOf ts) mark (λ q. total extent (at q ts)) (slots_of ts) (p ▹ s)
+  new-child : (mark : Path → Mark) → ((q : Path) → (p ≡ q → ⊥) → mark q ≡ mark_at (at q ts)) → (s : Step) → times (p ▹ s) (nodes_of ts) ≡ 0 → New p (nodes_of ts) mark (λ q. total extent (at q ts)) (slots_of ts) (p ▹ s)
   new-child mark as-was s z =
       let nil = unseen (p ▹ s) z in
       record {
         child = same_self p;
-        unmarked = as-was (p ▹ s) (not_own s) ∙ ap markAt nil;
+        unmarked = as-was (p ▹ s) (not_own s) ∙ ap mark_at nil;
         empty = ap (total extent) nil;
         cell-less = places-none (is_held (p ▹ s)) 1 (slots_of ts) (cellless ts (p ▹ s) nil);
         child-less = childless ts (p ▹ s) nil;
@@ -103,78 +103,78 @@ module _ (T : Sheets) (ts : List Entry) (H : Holds T ts) (r : ℕ) (p : Path) (h
 
   -- the tables once p is marked
   abbrev pub Touched : Sheets → Type 0
-  Touched U = Holding U (nodesOf ts ++ marked (at p ts) p (kind v)) (λ q. markAt (at q (ts ++ entry p v ∷ []))) (λ q. total extent (at q ts)) (slots_of ts) (firsts (ts ++ entry p v ∷ [])) (lettersOf ts)
+  Touched U = Holding U (nodes_of ts ++ marked (at p ts) p (kind v)) (λ q. mark_at (at q (ts ++ entry p v ∷ []))) (λ q. total extent (at q ts)) (slots_of ts) (firsts (ts ++ entry p v ∷ [])) (letters_of ts)
 
   pub touches : T.used + length (marked (at p ts) p (kind v)) ≤ length T.nodes → Touched (touched r (mark_of (kind v)) T)
   touches room = go (at p ts) refl
     where
-      marked-at : (node T r).mark ≡ markAt (at p ts)
+      marked-at : (node T r).mark ≡ mark_at (at p ts)
       marked-at = H.holding.marks r p home
 
       go : (vs : List Value) → at p ts ≡ vs → Touched (touched r (mark_of (kind v)) T)
       go [] e =
           let K = kind v in
-          let fresh : isFresh T r ≡ true = ap (λ m. eqb (markNumber m) 0) (marked-at ∙ ap markAt e) in
+          let fresh : is_fresh T r ≡ true = ap (λ m. eqb (mark_number m) 0) (marked-at ∙ ap mark_at e) in
           let brings : marked (at p ts) p K ≡ brought p K = ap (λ vs. marked vs p K) e in
           let size = ap length brings ∙ length-brought p K in
           let few = firsts-fewer ts seen p once-here e in
           let used = H.holding.used in
           let within = home.1 in
           let long = H.holding.marked in
-          let lengths : length (named r (mark_of K) T).nodes ≡ length T.nodes = length-adjust (withOrder r) (T.marked + 1) _ ∙ length-adjust (withMark (mark_of K)) r T.nodes in
-          let N = names T (nodesOf ts) (λ q. markAt (at q ts)) (λ q. total extent (at q ts)) (slots_of ts) (firsts ts) (lettersOf ts) (alone_of ts) H.holding r p home (mark_of K) (omega arith) (omega arith) in
-          let alone : Alone (nodesOf ts ++ brought p K) = alone-front (nodesOf ts ++ brought p K) (newChild (had (λ i. false) (at p ts)) p (branchOf v))
-          (subst Alone (nodes-snoc ts (entry p v) ∙ ap (λ l. nodesOf ts ++ (l ++ newChild (had (λ i. false) (at p ts)) p (branchOf v))) brings ∙ sym (append_assoc (nodesOf ts) (brought p K) (newChild (had (λ i. false) (at p ts)) p (branchOf v)))) (alone_of (ts ++ entry p v ∷ []))) in
-          let G = grows (named r (mark_of K) T) (nodesOf ts) (put_at p (mark_of K) (λ q. markAt (at q ts))) (λ q. total extent (at q ts)) (slots_of ts) (firsts ts ++ p ∷ []) (lettersOf ts) r p (brought p K)
+          let lengths : length (named r (mark_of K) T).nodes ≡ length T.nodes = length-adjust (with_order r) (T.marked + 1) _ ∙ length-adjust (with_mark (mark_of K)) r T.nodes in
+          let N = names T (nodes_of ts) (λ q. mark_at (at q ts)) (λ q. total extent (at q ts)) (slots_of ts) (firsts ts) (letters_of ts) (alone_of ts) H.holding r p home (mark_of K) (omega arith) (omega arith) in
+          let alone : Alone (nodes_of ts ++ brought p K) = alone-front (nodes_of ts ++ brought p K) (new_child (had (λ i. false) (at p ts)) p (branch_of v))
+          (subst Alone (nodes-snoc ts (entry p v) ∙ ap (λ l. nodes_of ts ++ (l ++ new_child (had (λ i. false) (at p ts)) p (branch_of v))) brings ∙ sym (append_assoc (nodes_of ts) (brought p K) (new_child (had (λ i. false) (at p ts)) p (branch_of v)))) (alone_of (ts ++ entry p v ∷ []))) in
+          let G = grows (named r (mark_of K) T) (nodes_of ts) (put_at p (mark_of K) (λ q. mark_at (at q ts))) (λ q. total extent (at q ts)) (slots_of ts) (firsts ts ++ p ∷ []) (letters_of ts) r p (brought p K)
           alone N home (each-new e) (brought-kin p K) (omega arith) (omega (arith, length-append (firsts ts) (p ∷ [])))
-          (familyOf (mark_of K)) (omega (arith, family-takes K, length-brought p K)) (omega (arith, family-takes K)) in
-          let all : take (familyOf (mark_of K)) (brought p K) ≡ brought p K = ap (λ n. take n (brought p K)) (family-takes K ∙ sym (length-brought p K)) ∙ take-length (brought p K) in
-          subst Touched (sym (cond-true (isFresh T r) _ T fresh))
-          (recast _ _ _ _ _ _ _ _ _ _ _ _ _ (ap (λ l. nodesOf ts ++ l) (all ∙ sym brings)) (marks_then e) (λ q. refl) refl (sym (firsts-snoc p v ts ∙ ap (λ vs. cond (isNil vs) (firsts ts ++ p ∷ []) (firsts ts)) e)) refl G)
+          (family_of (mark_of K)) (omega (arith, family-takes K, length-brought p K)) (omega (arith, family-takes K)) in
+          let all : take (family_of (mark_of K)) (brought p K) ≡ brought p K = ap (λ n. take n (brought p K)) (family-takes K ∙ sym (length-brought p K)) ∙ take-length (brought p K) in
+          subst Touched (sym (cond-true (is_fresh T r) _ T fresh))
+          (recast _ _ _ _ _ _ _ _ _ _ _ _ _ (ap (λ l. nodes_of ts ++ l) (all ∙ sym brings)) (marks_then e) (λ q. refl) refl (sym (firsts-snoc p v ts ∙ ap (λ vs. cond (is_nil vs) (firsts ts ++ p ∷ []) (firsts ts)) e)) refl G)
         where
-          each-new : at p ts ≡ [] → (j : ℕ) → j < length (brought p (kind v)) → New p (nodesOf ts) (put_at p (mark_of (kind v)) (λ q. markAt (at q ts))) (λ q. total extent (at q ts)) (slots_of ts) (get_or (brought p (kind v)) j root) × (ordinal (get_or (brought p (kind v)) j root) ≡ j)
+          each-new : at p ts ≡ [] → (j : ℕ) → j < length (brought p (kind v)) → New p (nodes_of ts) (put_at p (mark_of (kind v)) (λ q. mark_at (at q ts))) (λ q. total extent (at q ts)) (slots_of ts) (get_or (brought p (kind v)) j root) × (ordinal (get_or (brought p (kind v)) j root) ≡ j)
           each-new e j h =
               let b = brought-at p (kind v) j (omega (arith, length-brought p (kind v))) in
-              let N = new-child (put_at p (mark_of (kind v)) (λ q. markAt (at q ts))) (λ q ne. put-elsewhere p q (mark_of (kind v)) (λ q. markAt (at q ts)) ne) b.0 (unmarked-childless ts p b.0 e) in
-              (subst (New p (nodesOf ts) (put_at p (mark_of (kind v)) (λ q. markAt (at q ts))) (λ q. total extent (at q ts)) (slots_of ts)) (sym b.1) N, ap ordinal b.1 ∙ b.2)
+              let N = new-child (put_at p (mark_of (kind v)) (λ q. mark_at (at q ts))) (λ q ne. put-elsewhere p q (mark_of (kind v)) (λ q. mark_at (at q ts)) ne) b.0 (unmarked-childless ts p b.0 e) in
+              (subst (New p (nodes_of ts) (put_at p (mark_of (kind v)) (λ q. mark_at (at q ts))) (λ q. total extent (at q ts)) (slots_of ts)) (sym b.1) N, ap ordinal b.1 ∙ b.2)
 
-          marks_then : at p ts ≡ [] → (q : Path) → put_at p (mark_of (kind v)) (λ q. markAt (at q ts)) q ≡ markAt (at q (ts ++ entry p v ∷ []))
+          marks_then : at p ts ≡ [] → (q : Path) → put_at p (mark_of (kind v)) (λ q. mark_at (at q ts)) q ≡ mark_at (at q (ts ++ entry p v ∷ []))
           marks_then e q = go' (same p q) refl
             where
-              go' : (b : Bool) → same p q ≡ b → put_at p (mark_of (kind v)) (λ q. markAt (at q ts)) q ≡ markAt (at q (ts ++ entry p v ∷ []))
-              go' true k = let i = same_true p q k in put-there p q (mark_of (kind v)) (λ q. markAt (at q ts)) i ∙ ap markAt (sym (ap (λ x. at x (ts ++ entry p v ∷ [])) (sym i) ∙ at_on p v ts ∙ ap (λ vs. vs ++ v ∷ []) e))
-              go' false k = cond-false (same p q) _ _ k ∙ ap markAt (sym (at_off p q v ts k))
+              go' : (b : Bool) → same p q ≡ b → put_at p (mark_of (kind v)) (λ q. mark_at (at q ts)) q ≡ mark_at (at q (ts ++ entry p v ∷ []))
+              go' true k = let i = same_true p q k in put-there p q (mark_of (kind v)) (λ q. mark_at (at q ts)) i ∙ ap mark_at (sym (ap (λ x. at x (ts ++ entry p v ∷ [])) (sym i) ∙ at_on p v ts ∙ ap (λ vs. vs ++ v ∷ []) e))
+              go' false k = cond-false (same p q) _ _ k ∙ ap mark_at (sym (at_off p q v ts k))
       go (u ∷ us) e =
-          let stale : isFresh T r ≡ false = ap (λ m. eqb (markNumber m) 0) (marked-at ∙ ap markAt e) ∙ some-mark (kind u) in
+          let stale : is_fresh T r ≡ false = ap (λ m. eqb (mark_number m) 0) (marked-at ∙ ap mark_at e) ∙ some-mark (kind u) in
           let brings : marked (at p ts) p (kind v) ≡ [] = ap (λ vs. marked vs p (kind v)) e in
-          subst Touched (sym (cond-false (isFresh T r) _ T stale))
-          (recast _ _ _ _ _ _ _ _ _ _ _ _ _ (sym (ap (λ l. nodesOf ts ++ l) brings ∙ append-nil (nodesOf ts))) marks-still (λ q. refl) refl (sym (firsts-snoc p v ts ∙ ap (λ vs. cond (isNil vs) (firsts ts ++ p ∷ []) (firsts ts)) e)) refl H.holding)
+          subst Touched (sym (cond-false (is_fresh T r) _ T stale))
+          (recast _ _ _ _ _ _ _ _ _ _ _ _ _ (sym (ap (λ l. nodes_of ts ++ l) brings ∙ append-nil (nodes_of ts))) marks-still (λ q. refl) refl (sym (firsts-snoc p v ts ∙ ap (λ vs. cond (is_nil vs) (firsts ts ++ p ∷ []) (firsts ts)) e)) refl H.holding)
         where
-          marks-still : (q : Path) → markAt (at q ts) ≡ markAt (at q (ts ++ entry p v ∷ []))
+          marks-still : (q : Path) → mark_at (at q ts) ≡ mark_at (at q (ts ++ entry p v ∷ []))
           marks-still q = go' (same p q) refl
             where
-              go' : (b : Bool) → same p q ≡ b → markAt (at q ts) ≡ markAt (at q (ts ++ entry p v ∷ []))
-              go' true k = let i = same_true p q k in ap (λ x. markAt (at x ts)) (sym i) ∙ ap markAt e ∙ sym (ap markAt (ap (λ x. at x (ts ++ entry p v ∷ [])) (sym i) ∙ at_on p v ts ∙ ap (λ vs. vs ++ v ∷ []) e))
-              go' false k = ap markAt (sym (at_off p q v ts k))
+              go' : (b : Bool) → same p q ≡ b → mark_at (at q ts) ≡ mark_at (at q (ts ++ entry p v ∷ []))
+              go' true k = let i = same_true p q k in ap (λ x. mark_at (at x ts)) (sym i) ∙ ap mark_at e ∙ sym (ap mark_at (ap (λ x. at x (ts ++ entry p v ∷ [])) (sym i) ∙ at_on p v ts ∙ ap (λ vs. vs ++ v ∷ []) e))
+              go' false k = ap mark_at (sym (at_off p q v ts k))
 
   -- ---- a new index gets a record
 
   -- the tables once the index has its record
   abbrev pub Branched : Sheets → Type 0
-  Branched U = Holding U (nodesOf (ts ++ entry p v ∷ [])) (λ q. markAt (at q (ts ++ entry p v ∷ []))) (λ q. total extent (at q ts)) (slots_of ts) (firsts (ts ++ entry p v ∷ [])) (lettersOf ts)
+  Branched U = Holding U (nodes_of (ts ++ entry p v ∷ [])) (λ q. mark_at (at q (ts ++ entry p v ∷ []))) (λ q. total extent (at q ts)) (slots_of ts) (firsts (ts ++ entry p v ∷ [])) (letters_of ts)
 
   -- the nodes with no new index, and with one
-  nodes-old : newChild (had (λ i. false) (at p ts)) p (branchOf v) ≡ [] → nodesOf ts ++ marked (at p ts) p (kind v) ≡ nodesOf (ts ++ entry p v ∷ [])
-  nodes-old e = sym (nodes-snoc ts (entry p v) ∙ ap (λ l. nodesOf ts ++ (marked (at p ts) p (kind v) ++ l)) e ∙ ap (λ l. nodesOf ts ++ l) (append-nil (marked (at p ts) p (kind v))))
+  nodes-old : new_child (had (λ i. false) (at p ts)) p (branch_of v) ≡ [] → nodes_of ts ++ marked (at p ts) p (kind v) ≡ nodes_of (ts ++ entry p v ∷ [])
+  nodes-old e = sym (nodes-snoc ts (entry p v) ∙ ap (λ l. nodes_of ts ++ (marked (at p ts) p (kind v) ++ l)) e ∙ ap (λ l. nodes_of ts ++ l) (append-nil (marked (at p ts) p (kind v))))
 
-  nodes-new : (q : Path) → newChild (had (λ i. false) (at p ts)) p (branchOf v) ≡ q ∷ [] → (nodesOf ts ++ marked (at p ts) p (kind v)) ++ q ∷ [] ≡ nodesOf (ts ++ entry p v ∷ [])
-  nodes-new q e = append_assoc (nodesOf ts) (marked (at p ts) p (kind v)) (q ∷ []) ∙ sym (nodes-snoc ts (entry p v) ∙ ap (λ l. nodesOf ts ++ (marked (at p ts) p (kind v) ++ l)) e)
+  nodes-new : (q : Path) → new_child (had (λ i. false) (at p ts)) p (branch_of v) ≡ q ∷ [] → (nodes_of ts ++ marked (at p ts) p (kind v)) ++ q ∷ [] ≡ nodes_of (ts ++ entry p v ∷ [])
+  nodes-new q e = append_assoc (nodes_of ts) (marked (at p ts) p (kind v)) (q ∷ []) ∙ sym (nodes-snoc ts (entry p v) ∙ ap (λ l. nodes_of ts ++ (marked (at p ts) p (kind v) ++ l)) e)
 
   -- the children that a mark brings are children
-  family-kin : AllByRecursion (λ x. isChild p x ≡ true) (marked (at p ts) p (kind v))
+  family-kin : AllByRecursion (λ x. is_child p x ≡ true) (marked (at p ts) p (kind v))
   family-kin = go (at p ts)
     where
-      go : (vs : List Value) → AllByRecursion (λ x. isChild p x ≡ true) (marked vs p (kind v))
+      go : (vs : List Value) → AllByRecursion (λ x. is_child p x ≡ true) (marked vs p (kind v))
       go [] = brought-kin p (kind v)
       go (u ∷ us) = tt
 
@@ -183,56 +183,56 @@ module _ (T : Sheets) (ts : List Entry) (H : Holds T ts) (r : ℕ) (p : Path) (h
   few-then U G = go (at p ts) refl
     where
       go : (vs : List Value) → at p ts ≡ vs → length (firsts (ts ++ entry p v ∷ [])) < U.used
-      go [] e = omega (arith, G.used, length-append (nodesOf ts) (marked (at p ts) p (kind v)), firsts-fewer ts seen p once-here e, ap length (firsts-snoc p v ts ∙ ap (λ vs. cond (isNil vs) (firsts ts ++ p ∷ []) (firsts ts)) e), length-append (firsts ts) (p ∷ []))
-      go (u ∷ us) e = omega (arith, G.used, length-append (nodesOf ts) (marked (at p ts) p (kind v)), firsts-few ts seen, ap length (firsts-snoc p v ts ∙ ap (λ vs. cond (isNil vs) (firsts ts ++ p ∷ []) (firsts ts)) e))
+      go [] e = omega (arith, G.used, length-append (nodes_of ts) (marked (at p ts) p (kind v)), firsts-fewer ts seen p once-here e, ap length (firsts-snoc p v ts ∙ ap (λ vs. cond (is_nil vs) (firsts ts ++ p ∷ []) (firsts ts)) e), length-append (firsts ts) (p ∷ []))
+      go (u ∷ us) e = omega (arith, G.used, length-append (nodes_of ts) (marked (at p ts) p (kind v)), firsts-few ts seen, ap length (firsts-snoc p v ts ∙ ap (λ vs. cond (is_nil vs) (firsts ts ++ p ∷ []) (firsts ts)) e))
 
   -- what was found of the index, and the tables then
-  pub branches : (k : ℕ) → Found (nodesOf ts) k p v → (U : Sheets) → Touched U → r < length U.nodes
-      → (newChild (had (λ i. false) (at p ts)) p (branchOf v) ≢ [] → U.used < length U.nodes)
-      → Branched (branched r k (index_of v) U) × ((i : ℕ) → index_of v ≡ options.Some i → Home (nodesOf (ts ++ entry p v ∷ [])) (branchThen k (index_of v) U) (p ▹ alt i))
+  pub branches : (k : ℕ) → Found (nodes_of ts) k p v → (U : Sheets) → Touched U → r < length U.nodes
+      → (new_child (had (λ i. false) (at p ts)) p (branch_of v) ≢ [] → U.used < length U.nodes)
+      → Branched (branched r k (index_of v) U) × ((i : ℕ) → index_of v ≡ options.Some i → Home (nodes_of (ts ++ entry p v ∷ [])) (branch_then k (index_of v) U) (p ▹ alt i))
   branches k found U G l room = ⊎_elim plain with-index (indexed v)
     where
-      plain : (branchOf v ≡ unbranched) × (index_of v ≡ options.None) → Branched (branched r k (index_of v) U) × ((i : ℕ) → index_of v ≡ options.Some i → Home (nodesOf (ts ++ entry p v ∷ [])) (branchThen k (index_of v) U) (p ▹ alt i))
+      plain : (branch_of v ≡ unbranched) × (index_of v ≡ options.None) → Branched (branched r k (index_of v) U) × ((i : ℕ) → index_of v ≡ options.Some i → Home (nodes_of (ts ++ entry p v ∷ [])) (branch_then k (index_of v) U) (p ▹ alt i))
       plain (b, o) = (
-        subst (λ x. Branched (branched r k x U)) (sym o) (recast _ _ _ _ _ _ _ _ _ _ _ _ _ (nodes-old (ap (newChild (had (λ i. false) (at p ts)) p) b)) (λ q. refl) (λ q. refl) refl refl refl G),
+        subst (λ x. Branched (branched r k x U)) (sym o) (recast _ _ _ _ _ _ _ _ _ _ _ _ _ (nodes-old (ap (new_child (had (λ i. false) (at p ts)) p) b)) (λ q. refl) (λ q. refl) refl refl refl G),
         λ i e. absurd (let w : ◌≡◌ {A = ℕ} 0 1 = cc in omega arith),
       )
 
-      with-index : (i : ℕ) × (branchOf v ≡ branch i) × (index_of v ≡ options.Some i) → Branched (branched r k (index_of v) U) × ((i : ℕ) → index_of v ≡ options.Some i → Home (nodesOf (ts ++ entry p v ∷ [])) (branchThen k (index_of v) U) (p ▹ alt i))
+      with-index : (i : ℕ) × (branch_of v ≡ branch i) × (index_of v ≡ options.Some i) → Branched (branched r k (index_of v) U) × ((i : ℕ) → index_of v ≡ options.Some i → Home (nodes_of (ts ++ entry p v ∷ [])) (branch_then k (index_of v) U) (p ▹ alt i))
       with-index (i, b, o) = ⊎_elim new there (found i o)
         where
           only : (j : ℕ) → index_of v ≡ options.Some j → i ≡ j
           only j e = cc
 
-          there : Home (nodesOf ts) k (p ▹ alt i) → Branched (branched r k (index_of v) U) × ((i : ℕ) → index_of v ≡ options.Some i → Home (nodesOf (ts ++ entry p v ∷ [])) (branchThen k (index_of v) U) (p ▹ alt i))
+          there : Home (nodes_of ts) k (p ▹ alt i) → Branched (branched r k (index_of v) U) × ((i : ℕ) → index_of v ≡ options.Some i → Home (nodes_of (ts ++ entry p v ∷ [])) (branch_then k (index_of v) U) (p ▹ alt i))
           there h =
               let ne : eqb k 0 ≡ false = ne_eqb k 0 (λ z. omega (arith, h.0)) in
-              let had-it : had (λ j. false) (at p ts) i ≡ true = ⊎_elim (λ t. t) (λ f. absurd (omega (arith, home-times (nodesOf ts) k (p ▹ alt i) h, branch-there ts p i, ap (λ x. cond {A = ℕ} x 1 0) f))) (cases_Bool (had (λ j. false) (at p ts) i)) in
-              let old : newChild (had (λ i. false) (at p ts)) p (branchOf v) ≡ [] = ap (newChild (had (λ i. false) (at p ts)) p) b ∙ ap (λ x. cond x [] ((p ▹ alt i) ∷ [])) had-it in (
+              let had-it : had (λ j. false) (at p ts) i ≡ true = ⊎_elim (λ t. t) (λ f. absurd (omega (arith, home-times (nodes_of ts) k (p ▹ alt i) h, branch-there ts p i, ap (λ x. cond {A = ℕ} x 1 0) f))) (cases_Bool (had (λ j. false) (at p ts) i)) in
+              let old : new_child (had (λ i. false) (at p ts)) p (branch_of v) ≡ [] = ap (new_child (had (λ i. false) (at p ts)) p) b ∙ ap (λ x. cond x [] ((p ▹ alt i) ∷ [])) had-it in (
                 subst (λ x. Branched (branched r k x U)) (sym o) (subst Branched (sym (cond-false (eqb k 0) _ U ne)) (recast _ _ _ _ _ _ _ _ _ _ _ _ _ (nodes-old old) (λ q. refl) (λ q. refl) refl refl refl G)),
-                λ j e. subst (λ m. Home (nodesOf (ts ++ entry p v ∷ [])) m (p ▹ alt j)) (sym (ap (λ x. branchThen k x U) o ∙ cond-false (eqb k 0) _ k ne))
-                    (subst (λ x. Home (nodesOf (ts ++ entry p v ∷ [])) k (p ▹ alt x)) (only j e) (subst (λ ns. Home ns k (p ▹ alt i)) (nodes-old old) (home-more (nodesOf ts) (marked (at p ts) p (kind v)) k (p ▹ alt i) h))),
+                λ j e. subst (λ m. Home (nodes_of (ts ++ entry p v ∷ [])) m (p ▹ alt j)) (sym (ap (λ x. branch_then k x U) o ∙ cond-false (eqb k 0) _ k ne))
+                    (subst (λ x. Home (nodes_of (ts ++ entry p v ∷ [])) k (p ▹ alt x)) (only j e) (subst (λ ns. Home ns k (p ▹ alt i)) (nodes-old old) (home-more (nodes_of ts) (marked (at p ts) p (kind v)) k (p ▹ alt i) h))),
               )
 
-          new : (times (p ▹ alt i) (nodesOf ts) ≡ 0) × (k ≡ 0) → Branched (branched r k (index_of v) U) × ((i : ℕ) → index_of v ≡ options.Some i → Home (nodesOf (ts ++ entry p v ∷ [])) (branchThen k (index_of v) U) (p ▹ alt i))
+          new : (times (p ▹ alt i) (nodes_of ts) ≡ 0) × (k ≡ 0) → Branched (branched r k (index_of v) U) × ((i : ℕ) → index_of v ≡ options.Some i → Home (nodes_of (ts ++ entry p v ∷ [])) (branch_then k (index_of v) U) (p ▹ alt i))
           new (z, e0) =
               let q = p ▹ alt i in
               let is : eqb k 0 ≡ true = eq-eqb k 0 e0 in
               let nil = unseen q z in
               let had-not : had (λ j. false) (at p ts) i ≡ false = ⊎_elim (λ t. absurd (omega (arith, z, branch-there ts p i, ap (λ x. cond {A = ℕ} x 1 0) t))) (λ f. f) (cases_Bool (had (λ j. false) (at p ts) i)) in
-              let one : newChild (had (λ i. false) (at p ts)) p (branchOf v) ≡ q ∷ [] = ap (newChild (had (λ i. false) (at p ts)) p) b ∙ ap (λ x. cond x [] ((p ▹ alt i) ∷ [])) had-not in
-              let there-is : newChild (had (λ i. false) (at p ts)) p (branchOf v) ≢ [] = λ n. let w : ◌≡◌ {A = ℕ} 0 1 = cc in omega arith in
-              let front : Alone (nodesOf ts ++ marked (at p ts) p (kind v)) = alone-front (nodesOf ts ++ marked (at p ts) p (kind v)) (q ∷ []) (subst Alone (sym (nodes-new q one)) (alone_of (ts ++ entry p v ∷ []))) in
-              let none : places (isChild q) 1 ((nodesOf ts ++ marked (at p ts) p (kind v)) ++ q ∷ []) ≡ [] = places-none (isChild q) 1 ((nodesOf ts ++ marked (at p ts) p (kind v)) ++ q ∷ [])
-              (All-append (λ x. isChild q x ≡ false) (nodesOf ts ++ marked (at p ts) p (kind v)) (q ∷ []) (All-append (λ x. isChild q x ≡ false) (nodesOf ts) (marked (at p ts) p (kind v)) (childless ts q nil) (off (marked (at p ts) p (kind v)) family-kin)) (brothers p q q (same_self p) (same_self p), tt)) in
-              let S = spawns U (nodesOf ts ++ marked (at p ts) p (kind v)) (λ q. markAt (at q (ts ++ entry p v ∷ []))) (λ q. total extent (at q ts)) (slots_of ts) (firsts (ts ++ entry p v ∷ [])) (lettersOf ts) front G r p (home-more (nodesOf ts) (marked (at p ts) p (kind v)) r p home) q i (same_self p) refl (ap markAt (others q (not_own (alt i)) ∙ nil)) (ap (total extent) nil)
+              let one : new_child (had (λ i. false) (at p ts)) p (branch_of v) ≡ q ∷ [] = ap (new_child (had (λ i. false) (at p ts)) p) b ∙ ap (λ x. cond x [] ((p ▹ alt i) ∷ [])) had-not in
+              let there-is : new_child (had (λ i. false) (at p ts)) p (branch_of v) ≢ [] = λ n. let w : ◌≡◌ {A = ℕ} 0 1 = cc in omega arith in
+              let front : Alone (nodes_of ts ++ marked (at p ts) p (kind v)) = alone-front (nodes_of ts ++ marked (at p ts) p (kind v)) (q ∷ []) (subst Alone (sym (nodes-new q one)) (alone_of (ts ++ entry p v ∷ []))) in
+              let none : places (is_child q) 1 ((nodes_of ts ++ marked (at p ts) p (kind v)) ++ q ∷ []) ≡ [] = places-none (is_child q) 1 ((nodes_of ts ++ marked (at p ts) p (kind v)) ++ q ∷ [])
+              (All-append (λ x. is_child q x ≡ false) (nodes_of ts ++ marked (at p ts) p (kind v)) (q ∷ []) (All-append (λ x. is_child q x ≡ false) (nodes_of ts) (marked (at p ts) p (kind v)) (childless ts q nil) (off (marked (at p ts) p (kind v)) family-kin)) (brothers p q q (same_self p) (same_self p), tt)) in
+              let S = spawns U (nodes_of ts ++ marked (at p ts) p (kind v)) (λ q. mark_at (at q (ts ++ entry p v ∷ []))) (λ q. total extent (at q ts)) (slots_of ts) (firsts (ts ++ entry p v ∷ [])) (letters_of ts) front G r p (home-more (nodes_of ts) (marked (at p ts) p (kind v)) r p home) q i (same_self p) refl (ap mark_at (others q (not_own (alt i)) ∙ nil)) (ap (total extent) nil)
               (places-none (is_held q) 1 (slots_of ts) (cellless ts q nil)) none l (room there-is) few in (
                 subst (λ x. Branched (branched r k x U)) (sym o) (subst Branched (sym (cond-true (eqb k 0) _ U is)) (recast _ _ _ _ _ _ _ _ _ _ _ _ _ (nodes-new q one) (λ q. refl) (λ q. refl) refl refl refl S)),
-                λ j e. subst (λ m. Home (nodesOf (ts ++ entry p v ∷ [])) m (p ▹ alt j)) (sym (ap (λ x. branchThen k x U) o ∙ cond-true (eqb k 0) _ k is ∙ G.used))
-                    (subst (λ x. Home (nodesOf (ts ++ entry p v ∷ [])) (1 + length (nodesOf ts ++ marked (at p ts) p (kind v))) (p ▹ alt x)) (only j e) (subst (λ ns. Home ns (1 + length (nodesOf ts ++ marked (at p ts) p (kind v))) (p ▹ alt i)) (nodes-new q one) (home-new (nodesOf ts ++ marked (at p ts) p (kind v)) q))),
+                λ j e. subst (λ m. Home (nodes_of (ts ++ entry p v ∷ [])) m (p ▹ alt j)) (sym (ap (λ x. branch_then k x U) o ∙ cond-true (eqb k 0) _ k is ∙ G.used))
+                    (subst (λ x. Home (nodes_of (ts ++ entry p v ∷ [])) (1 + length (nodes_of ts ++ marked (at p ts) p (kind v))) (p ▹ alt x)) (only j e) (subst (λ ns. Home ns (1 + length (nodes_of ts ++ marked (at p ts) p (kind v))) (p ▹ alt i)) (nodes-new q one) (home-new (nodes_of ts ++ marked (at p ts) p (kind v)) q))),
               )
             where
-              off : (xs : List Path) → AllByRecursion (λ x. isChild p x ≡ true) xs → AllByRecursion (λ x. isChild (p ▹ alt i) x ≡ false) xs
+              off : (xs : List Path) → AllByRecursion (λ x. is_child p x ≡ true) xs → AllByRecursion (λ x. is_child (p ▹ alt i) x ≡ false) xs
               off [] a = tt
               off (x ∷ xs) a = (brothers p (p ▹ alt i) x (same_self p) a.0, off xs a.1)
 
@@ -252,7 +252,7 @@ module _ (T : Sheets) (ts : List Entry) (H : Holds T ts) (r : ℕ) (p : Path) (h
       go true k = let i = same_true p q k in put-there p q _ (λ q. total extent (at q ts)) i ∙ sym sum-on ∙ ap (λ x. total extent (at x (ts ++ entry p v ∷ []))) i
       go false k = cond-false (same p q) _ _ k ∙ ap (total extent) (sym (at_off p q v ts k))
 
-  letters-then : lettersOf (ts ++ entry p v ∷ []) ≡ lettersOf ts + length (str (cell v))
+  letters-then : letters_of (ts ++ entry p v ∷ []) ≡ letters_of ts + length (str (cell v))
   letters-then = letters-more ts (entry p v ∷ []) ∙ omega arith
 
   -- a value without a cell
@@ -274,5 +274,5 @@ module _ (T : Sheets) (ts : List Entry) (H : Holds T ts) (r : ℕ) (p : Path) (h
       let S = stores U _ _ _ _ _ _ (alone_of (ts ++ entry p v ∷ [])) G r p home-then (entry p v) m (num (cell v)) (extent v) txt size refl refl long kept (omega arith) piece l l' in
       record { holding = recast _ _ _ _ _ _ _ _ _ _ _ _ _ refl (λ q. refl) sums-then (sym (slots-snoc ts (entry p v) ∙ ap (λ n. slots_of ts ++ slotted (entry p v) n) c)) refl (omega (arith, letters-then, G.filled)) S }
     where
-      home-then : Home (nodesOf (ts ++ entry p v ∷ [])) r p
-      home-then = subst (λ ns. Home ns r p) (sym (nodes-snoc ts (entry p v))) (home-more (nodesOf ts) _ r p home)
+      home-then : Home (nodes_of (ts ++ entry p v ∷ [])) r p
+      home-then = subst (λ ns. Home ns r p) (sym (nodes-snoc ts (entry p v))) (home-more (nodes_of ts) _ r p home)

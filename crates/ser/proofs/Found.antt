@@ -7,39 +7,39 @@ use Rattle.chain.proofs.Courses.{runs-course}
 use Rattle.document.specs.Calls.{Value, scalar, text, unit, none, some, variant, seq, map as mapping, tuple, Kind, ENUM, kind}
 use Rattle.document.specs.Nodes.{Path, ◌▹◌, Step, elem, key, value, field, alt, alike}
 use Rattle.document.specs.Entries.{Entry, at}
-use Rattle.document.specs.Tables.{cells, cells_of, lengthCells, Branch, unbranched, branch, branchOf}
-use Rattle.document.specs.Records.{had, newChild, marked, nodesOf, times}
+use Rattle.document.specs.Tables.{cells, cells_of, length_cells, Branch, unbranched, branch, branch_of}
+use Rattle.document.specs.Records.{had, new_child, marked, nodes_of, times}
 use Rattle.document.proofs.Paths.{same_self}
-use Rattle.document.proofs.Between.{isNil}
+use Rattle.document.proofs.Between.{is_nil}
 use Rattle.document.proofs.Allotting.{times-append, spawned, times-spawned}
-use Rattle.nodes.specs.Marks.{markNumber, mark_of, markAt}
+use Rattle.nodes.specs.Marks.{mark_number, mark_of, mark_at}
 use Rattle.nodes.specs.Children.{seek}
-use Rattle.nodes.specs.Homes.{Home, isChild, places}
+use Rattle.nodes.specs.Homes.{Home, is_child, places}
 use Rattle.nodes.proofs.Kin.{mark-number}
 use Rattle.nodes.proofs.Seeking.{seek-child}
 use Rattle.ser.specs.declared.records.Node.{Node}
-use Rattle.ser.specs.Moves.{Sheets, node, blankNode, isFresh, childOf}
-use Rattle.ser.specs.Held.{slotted, slots_of, nodeNexts, Holds}
+use Rattle.ser.specs.Moves.{Sheets, node, blank_node, is_fresh, child_of}
+use Rattle.ser.specs.Held.{slotted, slots_of, node_nexts, Holds}
 
 -- ---- its mark
 
 -- A node is without a mark where it is without a value.
-pub fresh_at : (T : Sheets) (r : ℕ) (vs : List Value) → (node T r).mark ≡ markAt vs → isFresh T r ≡ isNil vs
+pub fresh_at : (T : Sheets) (r : ℕ) (vs : List Value) → (node T r).mark ≡ mark_at vs → is_fresh T r ≡ is_nil vs
 fresh_at T r [] e = rw e refl
-fresh_at T r (v ∷ vs) e = rw e (ne_eqb (markNumber (mark_of (kind v))) 0 (λ z. omega (arith, mark-number (kind v))))
+fresh_at T r (v ∷ vs) e = rw e (ne_eqb (mark_number (mark_of (kind v))) 0 (λ z. omega (arith, mark-number (kind v))))
 
 -- ---- its children
 
 -- The walk over a node's children goes to exactly those nodes that are its children.
-pub children-course : (T : Sheets) (ts : List Entry) → Holds T ts → (r : ℕ) (p : Path) → Home (nodesOf ts) r p → (i : ℕ) → childOf T r i ≡ seek (map (λ n. n.index) T.nodes) i (places (isChild p) 1 (nodesOf ts))
-children-course T ts h r p home i = ap (seek (map (λ n. n.index) T.nodes) i) (runs-course (nodeNexts T) (node T r).children.first (places (isChild p) 1 (nodesOf ts)) (h.holding.children r p home).0)
+pub children-course : (T : Sheets) (ts : List Entry) → Holds T ts → (r : ℕ) (p : Path) → Home (nodes_of ts) r p → (i : ℕ) → child_of T r i ≡ seek (map (λ n. n.index) T.nodes) i (places (is_child p) 1 (nodes_of ts))
+children-course T ts h r p home i = ap (seek (map (λ n. n.index) T.nodes) i) (runs-course (node_nexts T) (node T r).children.first (places (is_child p) 1 (nodes_of ts)) (h.holding.children r p home).0)
 
 -- Values of an ENUM node bring no child but branches.
 spawned-enum : (r : Path) (s : Step) → ((i : ℕ) → alike s (alt i) ≡ false) → (vs us : List Value) → AllByRecursion (λ u. kind u ≡ ENUM) us → times (r ▹ s) (spawned r vs us) ≡ 0
 unfolding spawned
 spawned-enum r s off vs [] h = refl
 spawned-enum r s off vs (u ∷ us) (k, h) =
-    omega (arith, times-append (r ▹ s) (marked vs r (kind u) ++ newChild (had (λ i. false) vs) r (branchOf u)) (spawned r (vs ++ u ∷ []) us), times-append (r ▹ s) (marked vs r (kind u)) (newChild (had (λ i. false) vs) r (branchOf u)), by-mark vs (kind u) k, by_index (branchOf u), spawned-enum r s off (vs ++ u ∷ []) us h)
+    omega (arith, times-append (r ▹ s) (marked vs r (kind u) ++ new_child (had (λ i. false) vs) r (branch_of u)) (spawned r (vs ++ u ∷ []) us), times-append (r ▹ s) (marked vs r (kind u)) (new_child (had (λ i. false) vs) r (branch_of u)), by-mark vs (kind u) k, by_index (branch_of u), spawned-enum r s off (vs ++ u ∷ []) us h)
   where
     by-mark : (vs : List Value) (K : Kind) → K ≡ ENUM → times (r ▹ s) (marked vs r K) ≡ 0
     by-mark [] K e = rw e refl
@@ -49,12 +49,12 @@ spawned-enum r s off vs (u ∷ us) (k, h) =
     at-branch i true = refl
     at-branch i false = rw (same_self r, off i) refl
 
-    by_index : (b : Branch) → times (r ▹ s) (newChild (had (λ i. false) vs) r b) ≡ 0
+    by_index : (b : Branch) → times (r ▹ s) (new_child (had (λ i. false) vs) r b) ≡ 0
     by_index unbranched = refl
     by_index (branch i) = at-branch i (had (λ i. false) vs i)
 
 -- A child of an ENUM node is a branch.
-pub child-branch : (ts : List Entry) (p : Path) (s : Step) → AllByRecursion (λ u. kind u ≡ ENUM) (at p ts) → 1 ≤ times (p ▹ s) (nodesOf ts) → (i : ℕ) × (s ≡ alt i)
+pub child-branch : (ts : List Entry) (p : Path) (s : Step) → AllByRecursion (λ u. kind u ≡ ENUM) (at p ts) → 1 ≤ times (p ▹ s) (nodes_of ts) → (i : ℕ) × (s ≡ alt i)
 child-branch ts p s k h = go s (λ off. omega (arith, times-spawned p s [] ts, spawned-enum p s off [] (at p ts) k))
   where
     go : (s : Step) → (((i : ℕ) → alike s (alt i) ≡ false) → ⊥) → (i : ℕ) × (s ≡ alt i)
@@ -65,16 +65,16 @@ child-branch ts p s k h = go s (λ off. omega (arith, times-spawned p s [] ts, s
     go (alt i) not_so = (i, refl)
 
 -- The child of an index at an ENUM node: there is none and the answer is 0, or it is that child's record.
-pub child-found : (T : Sheets) (ts : List Entry) → Holds T ts → (r : ℕ) (p : Path) → Home (nodesOf ts) r p → AllByRecursion (λ u. kind u ≡ ENUM) (at p ts)
-    → (i : ℕ) → ((times (p ▹ alt i) (nodesOf ts) ≡ 0) × (childOf T r i ≡ 0)) ⊎ Home (nodesOf ts) (childOf T r i) (p ▹ alt i)
-child-found T ts h r p home k i = rw (children-course T ts h r p home i) (seek-child (map (λ n. n.index) T.nodes) (nodesOf ts) p
-    (λ q s there. get_or-map (λ (n : Node). n.index) T.nodes q blankNode ∙ h.holding.indices q s there)
+pub child-found : (T : Sheets) (ts : List Entry) → Holds T ts → (r : ℕ) (p : Path) → Home (nodes_of ts) r p → AllByRecursion (λ u. kind u ≡ ENUM) (at p ts)
+    → (i : ℕ) → ((times (p ▹ alt i) (nodes_of ts) ≡ 0) × (child_of T r i ≡ 0)) ⊎ Home (nodes_of ts) (child_of T r i) (p ▹ alt i)
+child-found T ts h r p home k i = rw (children-course T ts h r p home i) (seek-child (map (λ n. n.index) T.nodes) (nodes_of ts) p
+    (λ q s there. get_or-map (λ (n : Node). n.index) T.nodes q blank_node ∙ h.holding.indices q s there)
     (λ s there. child-branch ts p s k there) i)
 
 -- ---- the cells
 
 -- A length takes two cells at most.
-length_two : (n : ℕ) → lengthCells n ≤ 2
+length_two : (n : ℕ) → length_cells n ≤ 2
 length_two n = go (ltb n 255)
   where
     go : (b : Bool) → cond b 1 2 ≤ 2

@@ -7,13 +7,13 @@ use Rattle.document.specs.Calls.{Kind, SCALAR, TEXT, SEQ, MAP, ENUM, UNIT, TUPLE
 use Rattle.document.specs.Nodes.{Path, root, ◌▹◌, Step, same}
 use Rattle.document.specs.Entries.{Entry, at}
 use Rattle.document.specs.Tables.{cells}
-use Rattle.document.specs.Records.{nodesOf, brought, fieldsFrom, times}
+use Rattle.document.specs.Records.{nodes_of, brought, fields_from, times}
 use Rattle.document.proofs.Paths.{same_self, same_true, not-child}
 use Rattle.document.proofs.Allotting.{once}
 use Rattle.document.proofs.Growth.{unmarked-childless, one_place}
 use Rattle.nodes.specs.declared.marks.Mark.{Mark}
 use Rattle.nodes.specs.declared.marks.Mark.TheVariants.{Unmarked}
-use Rattle.nodes.specs.Homes.{Home, ordinal, isChild, places}
+use Rattle.nodes.specs.Homes.{Home, ordinal, is_child, places}
 use Rattle.nodes.proofs.Homes.{home-more, child-one}
 use Rattle.ser.specs.Moves.{Sheets, grown}
 use Rattle.ser.specs.Held.{Slot, slotted, slots_of, is_held, Holding}
@@ -23,10 +23,10 @@ use Rattle.ser.proofs.Moved.{length-grown}
 -- ---- records and nodes
 
 -- no node has two records
-pub alone_of : (ts : List Entry) → Alone (nodesOf ts)
+pub alone_of : (ts : List Entry) → Alone (nodes_of ts)
 alone_of ts zero j p h k = absurd (omega (arith, h.0))
 alone_of ts (suc i) zero p h k = absurd (omega (arith, k.0))
-alone_of ts (suc i) (suc j) p h k = ap suc (one_place p (nodesOf ts) i j (once p ts) (omega (arith, h.1)) (omega (arith, k.1)) h.2 k.2)
+alone_of ts (suc i) (suc j) p h k = ap suc (one_place p (nodes_of ts) i j (once p ts) (omega (arith, h.1)) (omega (arith, k.1)) h.2 k.2)
 
 -- .. nor among the first of them
 pub alone-front : (ns ms : List Path) → Alone (ns ++ ms) → Alone ns
@@ -38,10 +38,10 @@ places-none test i [] h = refl
 places-none test i (x ∷ xs) h = ap (λ b. cond b (i ∷ places test (suc i) xs) (places test (suc i) xs)) h.0 ∙ places-none test (suc i) xs h.1
 
 -- a node without a value has no child
-pub childless : (ts : List Entry) (q : Path) → at q ts ≡ [] → AllByRecursion (λ x. isChild q x ≡ false) (nodesOf ts)
-childless ts q e = go (nodesOf ts) (λ s. unmarked-childless ts q s e)
+pub childless : (ts : List Entry) (q : Path) → at q ts ≡ [] → AllByRecursion (λ x. is_child q x ≡ false) (nodes_of ts)
+childless ts q e = go (nodes_of ts) (λ s. unmarked-childless ts q s e)
   where
-    go : (ns : List Path) → ((s : Step) → times (q ▹ s) ns ≡ 0) → AllByRecursion (λ x. isChild q x ≡ false) ns
+    go : (ns : List Path) → ((s : Step) → times (q ▹ s) ns ≡ 0) → AllByRecursion (λ x. is_child q x ≡ false) ns
     go [] h = tt
     go (root ∷ ns) h = (refl, go ns (λ s. omega (arith, h s)))
     go ((y ▹ t) ∷ ns) h = (not-its (same y q) refl, go ns (λ s. omega (arith, h s)))
@@ -81,11 +81,11 @@ slots-snoc ts e = slots-more ts (e ∷ []) ∙ ap (λ l. slots_of ts ++ l) (appe
 -- ---- the children that a mark brings
 
 -- the children that a mark brings are children
-fields-kin : (p : Path) (i n : ℕ) → AllByRecursion (λ x. isChild p x ≡ true) (fieldsFrom p i n)
+fields-kin : (p : Path) (i n : ℕ) → AllByRecursion (λ x. is_child p x ≡ true) (fields_from p i n)
 fields-kin p i zero = tt
 fields-kin p i (suc n) = (same_self p, fields-kin p (suc i) n)
 
-pub brought-kin : (p : Path) (K : Kind) → AllByRecursion (λ x. isChild p x ≡ true) (brought p K)
+pub brought-kin : (p : Path) (K : Kind) → AllByRecursion (λ x. is_child p x ≡ true) (brought p K)
 brought-kin p (SCALAR k) = tt
 brought-kin p TEXT = tt
 brought-kin p SEQ = (same_self p, tt)
@@ -98,28 +98,28 @@ brought-kin p (TUPLE n) = fields-kin p 0 n
 
 -- a child of p that no record, mark or cell knows of yet
 pub record New (p : Path) (ns : List Path) (mark : Path → Mark) (sum : Path → ℕ) (sl : List Slot) (q : Path) : Type 0 where
-  pub child : isChild p q ≡ true
+  pub child : is_child p q ≡ true
   pub unmarked : mark q ≡ Unmarked
   pub empty : sum q ≡ 0
   pub cell-less : places (is_held q) 1 sl ≡ []
-  pub child-less : AllByRecursion (λ x. isChild q x ≡ false) ns
+  pub child-less : AllByRecursion (λ x. is_child q x ≡ false) ns
 
 -- a child's children are not its own brothers
-pub brothers : (p q x : Path) → isChild p q ≡ true → isChild p x ≡ true → isChild q x ≡ false
-brothers p q x a b = go (isChild q x) refl
+pub brothers : (p q x : Path) → is_child p q ≡ true → is_child p x ≡ true → is_child q x ≡ false
+brothers p q x a b = go (is_child q x) refl
   where
-    own : (y : Path) → isChild y y ≡ true → ⊥
+    own : (y : Path) → is_child y y ≡ true → ⊥
     own root e = let w : ◌≡◌ {A = ℕ} 0 1 = cc in omega arith
     own (y ▹ s) e = let z : y ≡ y ▹ s = same_true y (y ▹ s) e in let n = not-child y s in let w : ◌≡◌ {A = ℕ} 0 1 = cc in omega arith
 
-    go : (b : Bool) → isChild q x ≡ b → b ≡ false
-    go true e = absurd (own p (ap (isChild p) (child-one p q x b e) ∙ a))
+    go : (b : Bool) → is_child q x ≡ b → b ≡ false
+    go true e = absurd (own p (ap (is_child p) (child-one p q x b e) ∙ a))
     go false e = refl
 
 -- new children get their records, one after another
 pub grows : (T : Sheets) (ns : List Path) (mark : Path → Mark) (sum : Path → ℕ) (sl : List Slot) (fs : List Path) (letters : ℕ) (r : ℕ) (p : Path) (qs : List Path)
     → Alone (ns ++ qs) → Holding T ns mark sum sl fs letters → Home ns r p
-    → ((j : ℕ) → j < length qs → New p ns mark sum sl (get_or qs j root) × (ordinal (get_or qs j root) ≡ j)) → AllByRecursion (λ x. isChild p x ≡ true) qs
+    → ((j : ℕ) → j < length qs → New p ns mark sum sl (get_or qs j root) × (ordinal (get_or qs j root) ≡ j)) → AllByRecursion (λ x. is_child p x ≡ true) qs
     → r < length T.nodes → length fs < T.used
     → (n : ℕ) → n ≤ length qs → T.used + n ≤ length T.nodes → Holding (grown r n T) (ns ++ take n qs) mark sum sl fs letters
 grows T ns mark sum sl fs letters r p qs alone H home new kin l few zero b c = subst (λ ms. Holding T ms mark sum sl fs letters) (sym (append-nil ns)) H
@@ -132,11 +132,11 @@ grows T ns mark sum sl fs letters r p qs alone H home new kin l few (suc n) b c 
     let len = length-append ns (take n qs) in
     let long = length-take n qs in
     let before : Alone (ns ++ take n qs) = alone-front (ns ++ take n qs) (drop n qs) (subst Alone (sym (append_assoc ns (take n qs) (drop n qs) ∙ ap (λ l. ns ++ l) (take-append-drop n qs))) alone) in
-    let none : places (isChild q) 1 ((ns ++ take n qs) ++ q ∷ []) ≡ [] = places-none (isChild q) 1 ((ns ++ take n qs) ++ q ∷ [])
-    (All-append (λ x. isChild q x ≡ false) (ns ++ take n qs) (q ∷ []) (All-append (λ x. isChild q x ≡ false) ns (take n qs) w.0.child-less (off q w.0.child (take n qs) (All-take (λ x. isChild p x ≡ true) n qs kin))) (brothers p q q w.0.child w.0.child, tt)) in
+    let none : places (is_child q) 1 ((ns ++ take n qs) ++ q ∷ []) ≡ [] = places-none (is_child q) 1 ((ns ++ take n qs) ++ q ∷ [])
+    (All-append (λ x. is_child q x ≡ false) (ns ++ take n qs) (q ∷ []) (All-append (λ x. is_child q x ≡ false) ns (take n qs) w.0.child-less (off q w.0.child (take n qs) (All-take (λ x. is_child p x ≡ true) n qs kin))) (brothers p q q w.0.child w.0.child, tt)) in
     let more = spawns (grown r n T) (ns ++ take n qs) mark sum sl fs letters before h r p (home-more ns (take n qs) r p home) q n w.0.child w.1 w.0.unmarked w.0.empty w.0.cell-less none (omega (arith, size)) (omega (arith, size, used, len, long, H.used)) (omega (arith, used, len, long, H.used)) in
     subst (λ ms. Holding (grown r (suc n) T) ms mark sum sl fs letters) (append_assoc ns (take n qs) (q ∷ []) ∙ ap (λ l. ns ++ l) (sym (take-suc qs n root (omega arith)))) more
   where
-    off : (q : Path) → isChild p q ≡ true → (xs : List Path) → AllByRecursion (λ x. isChild p x ≡ true) xs → AllByRecursion (λ x. isChild q x ≡ false) xs
+    off : (q : Path) → is_child p q ≡ true → (xs : List Path) → AllByRecursion (λ x. is_child p x ≡ true) xs → AllByRecursion (λ x. is_child q x ≡ false) xs
     off q is [] a = tt
     off q is (x ∷ xs) a = (brothers p q x is a.0, off q is xs a.1)

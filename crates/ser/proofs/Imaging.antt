@@ -10,28 +10,28 @@ use Rattle.chain.proofs.Courses.{runs-course}
 use Rattle.document.specs.Calls.{width, total, extent, Kind, SCALAR, TEXT, SEQ, MAP, ENUM, UNIT, TUPLE, Value, scalar, text, unit, none, some, variant, seq, map, tuple, kind, cell, num, str, Call}
 use Rattle.document.specs.Nodes.{Path, root, same}
 use Rattle.document.specs.Entries.{Entry, at}
-use Rattle.document.specs.Columns.{columns, joined, lengthBytes, limit}
-use Rattle.document.specs.Bytes.{firsts, written, nodeBytes, bytes_of}
+use Rattle.document.specs.Columns.{columns, joined, length_bytes, limit}
+use Rattle.document.specs.Bytes.{firsts, written, node_bytes, bytes_of}
 use Rattle.document.specs.Places.{start}
-use Rattle.document.specs.Trace.{trace, placesAfter}
+use Rattle.document.specs.Trace.{trace, places_after}
 use Rattle.document.specs.Tables.{cells, cells_of}
-use Rattle.document.specs.WriteOut.{noneOpen, writeOut}
-use Rattle.document.specs.Records.{nodesOf}
+use Rattle.document.specs.WriteOut.{none_open, write_out}
+use Rattle.document.specs.Records.{nodes_of}
 use Rattle.document.proofs.Sound.{Fits, OneKind, Sound}
 use Rattle.nodes.specs.declared.marks.Mark.{Mark}
-use Rattle.nodes.specs.Marks.{mark_of, markAt}
+use Rattle.nodes.specs.Marks.{mark_of, mark_at}
 use Rattle.nodes.specs.Homes.{places, Home}
 use Rattle.ser.specs.Moves.{Sheets, node}
 use Rattle.ser.specs.Held.{Slot, holds, spare, slotted, slots_of, is_held, Keeps, Holds}
-use Rattle.ser.specs.Out.{inChain, value_at, start_at, piece_at, values_of, pieces_of, imageBy, nodeImage, ordered, imageUpTo, image_of, FitsMark, Pieces, PiecesBy, OutSafe, wrote}
+use Rattle.ser.specs.Out.{in_chain, value_at, start_at, piece_at, values_of, pieces_of, image_by, node_image, ordered, image_up_to, image_of, FitsMark, Pieces, PiecesBy, OutSafe, wrote}
 
 -- ---- the values of a node's cells
 
 -- the values in the cells of p
-abbrev heldBy : Path → List Slot → List Value
-heldBy p [] = []
-heldBy p (holds e ∷ sl) = cond (same e.node p) (e.said ∷ heldBy p sl) (heldBy p sl)
-heldBy p (spare ∷ sl) = heldBy p sl
+abbrev held_by : Path → List Slot → List Value
+held_by p [] = []
+held_by p (holds e ∷ sl) = cond (same e.node p) (e.said ∷ held_by p sl) (held_by p sl)
+held_by p (spare ∷ sl) = held_by p sl
 
 -- each cell from i on keeps what stands in it
 abbrev KeptFrom : Sheets → ℕ → List Slot → Type 0
@@ -51,13 +51,13 @@ abbrev IsText : Value → Type 0
 IsText v = num (cell v) ≡ length (str (cell v))
 
 -- the numbers along the places of p are those of its values
-numbers-held : (T : Sheets) (p : Path) (i : ℕ) (sl : List Slot) → KeptFrom T i sl → each (value_at T.cells) (places (is_held p) i sl) ≡ each num (each cell (heldBy p sl))
+numbers-held : (T : Sheets) (p : Path) (i : ℕ) (sl : List Slot) → KeptFrom T i sl → each (value_at T.cells) (places (is_held p) i sl) ≡ each num (each cell (held_by p sl))
 numbers-held T p i [] k = refl
 numbers-held T p i (spare ∷ sl) (k, ks) = numbers-held T p (suc i) sl ks
 numbers-held T p i (holds e ∷ sl) (k, ks) = go (same e.node p) (numbers-held T p (suc i) sl ks)
   where
-    go : (b : Bool) → each (value_at T.cells) (places (is_held p) (suc i) sl) ≡ each num (each cell (heldBy p sl))
-        → each (value_at T.cells) (cond b (i ∷ places (is_held p) (suc i) sl) (places (is_held p) (suc i) sl)) ≡ each num (each cell (cond b (e.said ∷ heldBy p sl) (heldBy p sl)))
+    go : (b : Bool) → each (value_at T.cells) (places (is_held p) (suc i) sl) ≡ each num (each cell (held_by p sl))
+        → each (value_at T.cells) (cond b (i ∷ places (is_held p) (suc i) sl) (places (is_held p) (suc i) sl)) ≡ each num (each cell (cond b (e.said ∷ held_by p sl) (held_by p sl)))
     go true h = ap (λ n. n ∷ each (value_at T.cells) (places (is_held p) (suc i) sl)) k.0 ∙ ap (λ ns. num (cell e.said) ∷ ns) h
     go false h = h
 
@@ -66,16 +66,16 @@ abbrev Among : Sheets → List ℕ → Type 0
 Among T ks = AllByRecursion (λ k. start_at T.cells k + value_at T.cells k ≤ T.filled) ks
 
 -- where they are texts, the pieces there are their letters, and end among those of the table
-pieces-held : (T : Sheets) (p : Path) (i : ℕ) (sl : List Slot) → KeptFrom T i sl → AllByRecursion IsText (heldBy p sl)
-    → (each (piece_at T.cells T.text) (places (is_held p) i sl) ≡ each str (each cell (heldBy p sl))) × Among T (places (is_held p) i sl)
+pieces-held : (T : Sheets) (p : Path) (i : ℕ) (sl : List Slot) → KeptFrom T i sl → AllByRecursion IsText (held_by p sl)
+    → (each (piece_at T.cells T.text) (places (is_held p) i sl) ≡ each str (each cell (held_by p sl))) × Among T (places (is_held p) i sl)
 pieces-held T p i [] k a = (refl, tt)
 pieces-held T p i (spare ∷ sl) (k, ks) a = pieces-held T p (suc i) sl ks a
 pieces-held T p i (holds e ∷ sl) (k, ks) a = go (same e.node p) (λ a. pieces-held T p (suc i) sl ks a) a
   where
     go : (b : Bool)
-        → (AllByRecursion IsText (heldBy p sl) → (each (piece_at T.cells T.text) (places (is_held p) (suc i) sl) ≡ each str (each cell (heldBy p sl))) × Among T (places (is_held p) (suc i) sl))
-        → AllByRecursion IsText (cond b (e.said ∷ heldBy p sl) (heldBy p sl))
-        → (each (piece_at T.cells T.text) (cond b (i ∷ places (is_held p) (suc i) sl) (places (is_held p) (suc i) sl)) ≡ each str (each cell (cond b (e.said ∷ heldBy p sl) (heldBy p sl))))
+        → (AllByRecursion IsText (held_by p sl) → (each (piece_at T.cells T.text) (places (is_held p) (suc i) sl) ≡ each str (each cell (held_by p sl))) × Among T (places (is_held p) (suc i) sl))
+        → AllByRecursion IsText (cond b (e.said ∷ held_by p sl) (held_by p sl))
+        → (each (piece_at T.cells T.text) (cond b (i ∷ places (is_held p) (suc i) sl) (places (is_held p) (suc i) sl)) ≡ each str (each cell (cond b (e.said ∷ held_by p sl) (held_by p sl))))
         × Among T (cond b (i ∷ places (is_held p) (suc i) sl) (places (is_held p) (suc i) sl))
     go true more (t, a) =
         let ih = more a in
@@ -90,19 +90,19 @@ abbrev Celling : Value → Type 0
 Celling v = 0 < cells v
 
 -- an entry at another node
-held-other : (p : Path) (e : Entry) (n : ℕ) (sl : List Slot) → same e.node p ≡ false → heldBy p (slotted e n ++ sl) ≡ heldBy p sl
+held-other : (p : Path) (e : Entry) (n : ℕ) (sl : List Slot) → same e.node p ≡ false → held_by p (slotted e n ++ sl) ≡ held_by p sl
 held-other p e zero sl f = refl
 held-other p e (suc zero) sl f = cond-false (same e.node p) _ _ f
 held-other p e (suc (suc n)) sl f = cond-false (same e.node p) _ _ f
 
 -- an entry at p
-held-here : (p : Path) (e : Entry) (n : ℕ) (sl : List Slot) → 0 < n → same e.node p ≡ true → heldBy p (slotted e n ++ sl) ≡ e.said ∷ heldBy p sl
+held-here : (p : Path) (e : Entry) (n : ℕ) (sl : List Slot) → 0 < n → same e.node p ≡ true → held_by p (slotted e n ++ sl) ≡ e.said ∷ held_by p sl
 held-here p e zero sl l t = absurd (omega arith)
 held-here p e (suc zero) sl l t = cond-true (same e.node p) _ _ t
 held-here p e (suc (suc n)) sl l t = cond-true (same e.node p) _ _ t
 
 -- where all values at p take cells, these are the values in p's cells
-held_at : (p : Path) (ts : List Entry) → AllByRecursion Celling (at p ts) → heldBy p (slots_of ts) ≡ at p ts
+held_at : (p : Path) (ts : List Entry) → AllByRecursion Celling (at p ts) → held_by p (slots_of ts) ≡ at p ts
 held_at p [] a = refl
 held_at p (e ∷ es) a = ⊎_elim
     (λ t. let b = subst (AllByRecursion Celling) (cond-true (same e.node p) (e.said ∷ at p es) (at p es) t) a in
@@ -156,8 +156,8 @@ text-kind (map n) e = never (cc)
 text-kind (tuple n) e = never (cc)
 
 -- values of one kind, with a fact of the kind
-all_of : (P : Value → Type 0) (Q : Kind → Type 0) → ((v : Value) → Q (kind v) → P v) → (K : Kind) → Q K → (vs : List Value) → AllByRecursion (λ v. kind v ≡ K) vs → AllByRecursion P vs
-all_of P Q h K q vs a = All-weaker (λ v. kind v ≡ K) P (λ v e. h v (subst Q (sym e) q)) vs a
+all_of_kind : (P : Value → Type 0) (Q : Kind → Type 0) → ((v : Value) → Q (kind v) → P v) → (K : Kind) → Q K → (vs : List Value) → AllByRecursion (λ v. kind v ≡ K) vs → AllByRecursion P vs
+all_of_kind P Q h K q vs a = All-weaker (λ v. kind v ≡ K) P (λ v e. h v (subst Q (sym e) q)) vs a
 
 -- ---- the bytes of a node
 
@@ -168,20 +168,20 @@ pub record Tells (vs : List Value) (xs : List ℕ) (ps : List (List ℕ)) : Type
 
 -- the bytes of values of one kind
 bytes-of : (col : Meaning) (K : Kind) (vs : List Value) (xs : List ℕ) (ps : List (List ℕ)) → AllByRecursion (λ v. kind v ≡ K) vs → Tells vs xs ps
-    → imageBy col (mark_of K) xs ps ≡ columns col K (each cell vs)
+    → image_by col (mark_of K) xs ps ≡ columns col K (each cell vs)
 unfolding columns
-bytes-of col (SCALAR k) vs xs ps a t = ap (col.image (width k)) (t.numbers (all_of Celling Celled celling (SCALAR k) tt vs a))
+bytes-of col (SCALAR k) vs xs ps a t = ap (col.image (width k)) (t.numbers (all_of_kind Celling Celled celling (SCALAR k) tt vs a))
 bytes-of col TEXT vs xs ps a t =
-    let c = all_of Celling Celled celling TEXT tt vs a in
-    ap (λ ns. lengthBytes col ns ++ joined ps) (t.numbers c) ∙ ap (λ ls. lengthBytes col (each num (each cell vs)) ++ joined ls) (t.letters c (All-weaker (λ v. kind v ≡ TEXT) IsText text-kind vs a))
-bytes-of col SEQ vs xs ps a t = ap (lengthBytes col) (t.numbers (all_of Celling Celled celling SEQ tt vs a))
-bytes-of col MAP vs xs ps a t = ap (lengthBytes col) (t.numbers (all_of Celling Celled celling MAP tt vs a))
-bytes-of col ENUM vs xs ps a t = ap (col.image 8) (t.numbers (all_of Celling Celled celling ENUM tt vs a))
+    let c = all_of_kind Celling Celled celling TEXT tt vs a in
+    ap (λ ns. length_bytes col ns ++ joined ps) (t.numbers c) ∙ ap (λ ls. length_bytes col (each num (each cell vs)) ++ joined ls) (t.letters c (All-weaker (λ v. kind v ≡ TEXT) IsText text-kind vs a))
+bytes-of col SEQ vs xs ps a t = ap (length_bytes col) (t.numbers (all_of_kind Celling Celled celling SEQ tt vs a))
+bytes-of col MAP vs xs ps a t = ap (length_bytes col) (t.numbers (all_of_kind Celling Celled celling MAP tt vs a))
+bytes-of col ENUM vs xs ps a t = ap (col.image 8) (t.numbers (all_of_kind Celling Celled celling ENUM tt vs a))
 bytes-of col UNIT vs xs ps a t = refl
 bytes-of col (TUPLE n) vs xs ps a t = refl
 
 -- .. of a node's values
-image-by : (col : Meaning) (vs : List Value) (xs : List ℕ) (ps : List (List ℕ)) → OneKind vs → Tells vs xs ps → imageBy col (markAt vs) xs ps ≡ written col vs
+image-by : (col : Meaning) (vs : List Value) (xs : List ℕ) (ps : List (List ℕ)) → OneKind vs → Tells vs xs ps → image_by col (mark_at vs) xs ps ≡ written col vs
 image-by col [] xs ps o t = refl
 image-by col (v ∷ vs) xs ps o t = bytes-of col (kind v) (v ∷ vs) xs ps (refl, o) t
 
@@ -193,11 +193,11 @@ module _ (T : Sheets) (ts : List Entry) (h : Holds T ts) where
   kept = kept_from T 1 (slots_of ts) (λ k l. subst (λ (m : ℕ). Keeps T m (get_or (slots_of ts) k spare)) (sym (one-add k)) (h.holding.values k l))
 
   -- a walk sees the cells of the node
-  along : (r : ℕ) (p : Path) → Home (nodesOf ts) r p → inChain T.cells (node T r).cells ≡ places (is_held p) 1 (slots_of ts)
+  along : (r : ℕ) (p : Path) → Home (nodes_of ts) r p → in_chain T.cells (node T r).cells ≡ places (is_held p) 1 (slots_of ts)
   along r p home = runs-course (each (λ c. c.next) T.cells) (node T r).cells.first (places (is_held p) 1 (slots_of ts)) (h.holding.cells r p home).0
 
   -- .. which tell its values
-  tells : (r : ℕ) (p : Path) → Home (nodesOf ts) r p → Tells (at p ts) (values_of T.cells (node T r).cells) (pieces_of T.cells T.text (node T r).cells)
+  tells : (r : ℕ) (p : Path) → Home (nodes_of ts) r p → Tells (at p ts) (values_of T.cells (node T r).cells) (pieces_of T.cells T.text (node T r).cells)
   tells r p home =
       record {
         numbers = λ c. ap (each (value_at T.cells)) (along r p home) ∙ numbers-held T p 1 (slots_of ts) kept ∙ ap (λ vs. each num (each cell vs)) (held_at p ts c);
@@ -206,9 +206,9 @@ module _ (T : Sheets) (ts : List Entry) (h : Holds T ts) where
       }
 
   -- the bytes of a record are those of its node
-  record-bytes : (col : Meaning) (r : ℕ) (p : Path) → Home (nodesOf ts) r p → OneKind (at p ts) → nodeImage col T.cells T.text (node T r) ≡ nodeBytes col ts p
+  record-bytes : (col : Meaning) (r : ℕ) (p : Path) → Home (nodes_of ts) r p → OneKind (at p ts) → node_image col T.cells T.text (node T r) ≡ node_bytes col ts p
   record-bytes col r p home o =
-      ap (λ m. imageBy col m (values_of T.cells (node T r).cells) (pieces_of T.cells T.text (node T r).cells)) (h.holding.marks r p home)
+      ap (λ m. image_by col m (values_of T.cells (node T r).cells) (pieces_of T.cells T.text (node T r).cells)) (h.holding.marks r p home)
       ∙ image-by col (at p ts) _ _ o (tells r p home)
 
 -- one list more at the end
@@ -218,32 +218,32 @@ joined-push (y ∷ xs) x = ap (λ zs. y ++ zs) (joined-push xs x) ∙ sym (appen
 
 -- the bytes of the first n records that were marked
 bytes-up-to : (col : Meaning) (T : Sheets) (ts : List Entry) (h : Holds T ts) → ((q : Path) → Sound (at q ts)) → (n : ℕ) → n ≤ length (firsts ts)
-    → imageUpTo col T n ≡ joined (each (nodeBytes col ts) (take n (firsts ts)))
+    → image_up_to col T n ≡ joined (each (node_bytes col ts) (take n (firsts ts)))
 bytes-up-to col T ts h s zero m = refl
 bytes-up-to col T ts h s (suc n) m =
     let fs = firsts ts in
     let p = get_or fs n root in
     let here = record-bytes T ts h col (node T (suc n)).order p (h.holding.order n (omega arith)) (s p).one-kind in
-    ap (λ zs. zs ++ nodeImage col T.cells T.text (ordered T n)) (bytes-up-to col T ts h s n (omega arith))
-    ∙ ap (λ zs. joined (each (nodeBytes col ts) (take n fs)) ++ zs) here
-    ∙ sym (joined-push (each (nodeBytes col ts) (take n fs)) (nodeBytes col ts p))
-    ∙ ap joined (sym (map_push (nodeBytes col ts) (take n fs) p))
-    ∙ ap (λ zs. joined (each (nodeBytes col ts) zs)) (sym (take-suc fs n root (omega arith)))
+    ap (λ zs. zs ++ node_image col T.cells T.text (ordered T n)) (bytes-up-to col T ts h s n (omega arith))
+    ∙ ap (λ zs. joined (each (node_bytes col ts) (take n fs)) ++ zs) here
+    ∙ sym (joined-push (each (node_bytes col ts) (take n fs)) (node_bytes col ts p))
+    ∙ ap joined (sym (map_push (node_bytes col ts) (take n fs) p))
+    ∙ ap (λ zs. joined (each (node_bytes col ts) zs)) (sym (take-suc fs n root (omega arith)))
 
 -- The bytes that write-out puts are those of the document.
 pub image-bytes : (col : Meaning) (T : Sheets) (ts : List Entry) → Holds T ts → ((q : Path) → Sound (at q ts)) → image_of col T ≡ bytes_of col ts
 unfolding image_of
 image-bytes col T ts h s =
-    ap (imageUpTo col T) h.holding.marked ∙ bytes-up-to col T ts h s (length (firsts ts)) (omega arith)
-    ∙ ap (λ zs. joined (each (nodeBytes col ts) zs)) (take_all (length (firsts ts)) (firsts ts) (omega arith))
+    ap (image_up_to col T) h.holding.marked ∙ bytes-up-to col T ts h s (length (firsts ts)) (omega arith)
+    ∙ ap (λ zs. joined (each (node_bytes col ts) zs)) (take_all (length (firsts ts)) (firsts ts) (omega arith))
 
 -- What write-out answers is what the document's definition says, where it is told whether the document is complete.
 pub wrote-out : (col : Meaning) (T : Sheets) (cs : List Call) (scratch output : List ℕ) → Holds T (trace start cs) → ((q : Path) → Sound (at q (trace start cs)))
     → T.taken - 1 ≡ cells_of (trace start cs)
-    → wrote (noneOpen (placesAfter start cs)) (T.taken - 1) (image_of col T) scratch output ≡ writeOut col cs (length scratch) (length output)
+    → wrote (none_open (places_after start cs)) (T.taken - 1) (image_of col T) scratch output ≡ write_out col cs (length scratch) (length output)
 wrote-out col T cs scratch output h s e =
-    ap (λ n. wrote (noneOpen (placesAfter start cs)) n (image_of col T) scratch output) e
-    ∙ ap (λ bs. wrote (noneOpen (placesAfter start cs)) (cells_of (trace start cs)) bs scratch output) (image-bytes col T (trace start cs) h s)
+    ap (λ n. wrote (none_open (places_after start cs)) n (image_of col T) scratch output) e
+    ∙ ap (λ bs. wrote (none_open (places_after start cs)) (cells_of (trace start cs)) bs scratch output) (image-bytes col T (trace start cs) h s)
 
 -- ---- bounds
 
@@ -299,11 +299,11 @@ fits_by UNIT xs h = tt
 fits_by (TUPLE n) xs h = tt
 
 -- the values of a sound node fit its mark
-mark-fits : (vs : List Value) (xs : List ℕ) (ps : List (List ℕ)) → Sound vs → Tells vs xs ps → FitsMark (markAt vs) xs
+mark-fits : (vs : List Value) (xs : List ℕ) (ps : List (List ℕ)) → Sound vs → Tells vs xs ps → FitsMark (mark_at vs) xs
 mark-fits [] xs ps s t = tt
 mark-fits (v ∷ vs) xs ps s t =
     fits_by (kind v) xs (λ c. let a : AllByRecursion (λ u. kind u ≡ kind v) (v ∷ vs) = (refl, s.one-kind) in
-    subst (Below (bits_of (kind v))) (sym (t.numbers (all_of Celling Celled celling (kind v) c (v ∷ vs) a))) (values-fit (kind v) (v ∷ vs) c a s.fits s.short-of))
+    subst (Below (bits_of (kind v))) (sym (t.numbers (all_of_kind Celling Celled celling (kind v) c (v ∷ vs) a))) (values-fit (kind v) (v ∷ vs) c a s.fits s.short-of))
 
 -- what a mark asks of the pieces
 pieces-by : (K : Kind) (T : Sheets) (ks : List ℕ) → (K ≡ TEXT → Pieces T.cells T.text ks) → PiecesBy (mark_of K) T.cells T.text ks
@@ -316,11 +316,11 @@ pieces-by UNIT T ks h = tt
 pieces-by (TUPLE n) T ks h = tt
 
 -- and its pieces lie within the text
-mark-pieces : (vs : List Value) (T : Sheets) (ks : List ℕ) → OneKind vs → (AllByRecursion Celling vs → AllByRecursion IsText vs → Pieces T.cells T.text ks) → PiecesBy (markAt vs) T.cells T.text ks
+mark-pieces : (vs : List Value) (T : Sheets) (ks : List ℕ) → OneKind vs → (AllByRecursion Celling vs → AllByRecursion IsText vs → Pieces T.cells T.text ks) → PiecesBy (mark_at vs) T.cells T.text ks
 mark-pieces [] T ks o h = tt
 mark-pieces (v ∷ vs) T ks o h =
     pieces-by (kind v) T ks (λ e. let a : AllByRecursion (λ u. kind u ≡ kind v) (v ∷ vs) = (refl, o) in
-    h (all_of Celling Celled celling (kind v) (subst Celled (sym e) tt) (v ∷ vs) a) (All-weaker (λ u. kind u ≡ kind v) IsText (λ u k. text-kind u (k ∙ e)) (v ∷ vs) a))
+    h (all_of_kind Celling Celled celling (kind v) (subst Celled (sym e) tt) (v ∷ vs) a) (All-weaker (λ u. kind u ≡ kind v) IsText (λ u k. text-kind u (k ∙ e)) (v ∷ vs) a))
 
 -- The tables keep write-out within its buffers.
 pub out-safe : (T : Sheets) (ts : List Entry) (n : ℕ) → Holds T ts → ((q : Path) → Sound (at q ts)) → T.used ≤ length T.nodes → T.marked < T.used → T.filled ≤ length T.text
@@ -332,13 +332,13 @@ out-safe T ts n h s u m l c =
       safe = λ j k.
           let p = get_or (firsts ts) j root in
           let r = (node T (suc j)).order in
-          let home : Home (nodesOf ts) r p = h.holding.order j (omega (arith, h.holding.marked)) in
+          let home : Home (nodes_of ts) r p = h.holding.order j (omega (arith, h.holding.marked)) in
           let go = along T ts h r p home in
           record {
             few = omega (arith, ap length go, places-few (is_held p) 1 (slots_of ts), h.holding.taken);
             fits = subst (λ (x : Mark). FitsMark x (values_of T.cells (node T r).cells)) (sym (h.holding.marks r p home)) (mark-fits (at p ts) _ _ (s p) (tells T ts h r p home));
-            pieces = subst (λ (x : Mark). PiecesBy x T.cells T.text (inChain T.cells (node T r).cells)) (sym (h.holding.marks r p home))
-                (mark-pieces (at p ts) T (inChain T.cells (node T r).cells) (s p).one-kind
+            pieces = subst (λ (x : Mark). PiecesBy x T.cells T.text (in_chain T.cells (node T r).cells)) (sym (h.holding.marks r p home))
+                (mark-pieces (at p ts) T (in_chain T.cells (node T r).cells) (s p).one-kind
                 (λ a t. subst (Pieces T.cells T.text) (sym go)
                 (All-weaker (λ i. start_at T.cells i + value_at T.cells i ≤ T.filled) _ (λ i b. omega arith) (places (is_held p) 1 (slots_of ts)) (pieces-held T p 1 (slots_of ts) (kept T ts h) (subst (AllByRecursion IsText) (sym (held_at p ts a)) t)).1)));
           };

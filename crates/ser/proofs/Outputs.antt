@@ -13,7 +13,7 @@ use Rattle.column.proofs.Widths.{below-decides}
 use Rattle.column.proofs.Overlaid.{overlaid-nil, length-overlaid, take-overlaid, overlaid-append}
 use Rattle.document.specs.declared.refusals.Refusal.{Refusal}
 use Rattle.document.specs.declared.refusals.Refusal.TheVariants as refusals
-use Rattle.document.specs.Refusals.{ofFault}
+use Rattle.document.specs.Refusals.{of_fault}
 use Rattle.document.specs.Columns.{short, longs}
 use Rattle.ser.specs.Out.{ending, Put, begins, wrote, Wrote}
 
@@ -71,7 +71,7 @@ put-stop place xs ys old new e p =
 -- the answer of a column's write, with the place after it, or as a refusal
 abbrev pub after : ℕ → Result ℕ Fault → Result ℕ Refusal
 after place (Ok n) = Ok (place + n)
-after place (Err f) = Err (ofFault f 0)
+after place (Err f) = Err (of_fault f 0)
 
 -- a column of values that fit is put, or has no room
 pub put-column : (col : Meaning) (w : ℕ) (vs old new : List ℕ) (place : ℕ) (r : Result ℕ Fault) → listed w ≡ true → Below w vs
@@ -85,7 +85,7 @@ put-column col w vs old new place r a b e h = go r (e ∙ cond-true (listed w &&
         record { answer = ap (λ m. Ok (place + m)) c.1 ∙ ending-in _ _ (leb-true _ _ c.0); bytes = h }
     go (Err f) e h =
         let d = declined (leb (place + length (col.image w vs)) (length old)) _ _ _ e in
-        record { answer = ap (λ g. Err (ofFault g 0)) d.1 ∙ ending-past _ _ (leb-false _ _ d.0); bytes = h }
+        record { answer = ap (λ g. Err (of_fault g 0)) d.1 ∙ ending-past _ _ (leb-false _ _ d.0); bytes = h }
 
 -- the same bytes and the same answer, told otherwise
 pub put_as : {place : ℕ} {xs ys old new : List ℕ} {r s : Result ℕ Refusal} → xs ≡ ys → r ≡ s → Put place xs old new r → Put place ys old new s

@@ -9,8 +9,8 @@ use Rattle.chain.proofs.Tables.{length-adjust, length-appended}
 use Rattle.document.specs.Calls.{Value, scalar, text, unit, none, some, variant, seq, map, tuple, kind, cell, num, str, extent, val}
 use Rattle.document.specs.Nodes.{Path, ◌▹◌, alt}
 use Rattle.document.specs.Entries.{Entry, entry, at}
-use Rattle.document.specs.Tables.{cells, lengthCells, cells_of, lettersOf, usableCells, branchOf}
-use Rattle.document.specs.Records.{nodesOf, marked, newChild, had, times}
+use Rattle.document.specs.Tables.{cells, length_cells, cells_of, letters_of, usable_cells, branch_of}
+use Rattle.document.specs.Records.{nodes_of, marked, new_child, had, times}
 use Rattle.document.proofs.Growth.{nodes-snoc, cells-more, letters-more}
 use Rattle.nodes.specs.declared.marks.Mark.{Mark}
 use Rattle.nodes.specs.Marks.{mark_of}
@@ -18,11 +18,11 @@ use Rattle.nodes.specs.Homes.{Home}
 use Rattle.ser.specs.declared.loads.Load.{Load}
 use Rattle.ser.specs.declared.loads.Load.TheVariants.{Nothing, Number, Length}
 use Rattle.ser.specs.Brings.{index_of, load_of}
-use Rattle.ser.specs.Moves.{Sheets, with_sum, cellWithNext, touched, kept, lettered, branched, put, putChild}
-use Rattle.ser.specs.Tables.{sizesOf}
+use Rattle.ser.specs.Moves.{Sheets, with_sum, cell_with_next, touched, kept, lettered, branched, put, put_child}
+use Rattle.ser.specs.Tables.{sizes_of}
 use Rattle.ser.specs.Held.{Holds}
 use Rattle.ser.proofs.Found.{length-slots}
-use Rattle.ser.proofs.Moving.{stored, newCell}
+use Rattle.ser.proofs.Moving.{stored, new_cell}
 use Rattle.ser.proofs.Moved.{length-touched, touched-rest, length-branched, branched-rest}
 use Rattle.ser.proofs.Entering.{Found, Branched, touches, branches, keeps-none, keeps-some}
 
@@ -54,7 +54,7 @@ overlaid-there f bs old h =
 
 -- ---- the value
 
-module _ (T : Sheets) (ts : List Entry) (H : Holds T ts) (r : ℕ) (p : Path) (home : Home (nodesOf ts) r p) (seen : (q : Path) → at q ts ≢ [] → times q (nodesOf ts) ≡ 1) (U : Sheets) where
+module _ (T : Sheets) (ts : List Entry) (H : Holds T ts) (r : ℕ) (p : Path) (home : Home (nodes_of ts) r p) (seen : (q : Path) → at q ts ≢ [] → times q (nodes_of ts) ≡ 1) (U : Sheets) where
   -- a number or an index
   keeps-number : (v : Value) → cells v ≡ 1 → str (cell v) ≡ [] → Branched T ts H r p home v seen U → r < length U.nodes → U.taken < length U.cells
       → Holds (stored r (num (cell v)) 1 (extent v) U.text U.filled U) (ts ++ entry p v ∷ [])
@@ -72,7 +72,7 @@ module _ (T : Sheets) (ts : List Entry) (H : Holds T ts) (r : ℕ) (p : Path) (h
       go false e = keeps-some T ts H r p home v seen 1 (many ∙ ap (λ b. cond b 1 2) e) refl U G l c txt size before room piece
 
 -- a length takes a cell
-some-cells : (n : ℕ) → 0 < lengthCells n
+some-cells : (n : ℕ) → 0 < length_cells n
 some-cells n = go (ltb n 255)
   where
     go : (b : Bool) → 0 < cond b 1 2
@@ -80,7 +80,7 @@ some-cells n = go (ltb n 255)
     go false = omega arith
 
 -- a value goes to its cell, and its letters to the text
-keeps-value : (T : Sheets) (ts : List Entry) (H : Holds T ts) (r : ℕ) (p : Path) (home : Home (nodesOf ts) r p) (v : Value) (seen : (q : Path) → at q ts ≢ [] → times q (nodesOf ts) ≡ 1)
+keeps-value : (T : Sheets) (ts : List Entry) (H : Holds T ts) (r : ℕ) (p : Path) (home : Home (nodes_of ts) r p) (v : Value) (seen : (q : Path) → at q ts ≢ [] → times q (nodes_of ts) ≡ 1)
     → (U : Sheets) → Branched T ts H r p home v seen U → r < length U.nodes → (0 < cells v → U.taken < length U.cells) → U.filled + length (str (cell v)) ≤ length U.text
     → Holds (lettered (val v) (kept r (load_of v) U)) (ts ++ entry p v ∷ [])
 keeps-value T ts H r p home (scalar k b) seen U G l c t = keeps-number T ts H r p home seen U (scalar k b) refl refl G l (c (omega arith))
@@ -96,17 +96,17 @@ keeps-value T ts H r p home (tuple n) seen U G l c t = keeps-none T ts H r p hom
 -- ---- lengths
 
 -- tables of the same lengths
-pub same-sizes : (T U : Sheets) → length U.nodes ≡ length T.nodes → length U.cells ≡ length T.cells → length U.text ≡ length T.text → sizesOf U ≡ sizesOf T
+pub same-sizes : (T U : Sheets) → length U.nodes ≡ length T.nodes → length U.cells ≡ length T.cells → length U.text ≡ length T.text → sizes_of U ≡ sizes_of T
 same-sizes T U a b c = cc
 
 -- a value's cell and sum change no length
 length-kept : (r : ℕ) (load : Load) (U : Sheets) → (length (kept r load U).nodes ≡ length U.nodes) × (length (kept r load U).cells ≡ length U.cells) × ((kept r load U).text ≡ U.text) × ((kept r load U).filled ≡ U.filled)
 length-kept r Nothing U = (refl, refl, refl, refl)
-length-kept r (Number b) U = (length-adjust _ r _ ∙ length-adjust (with_sum 0) r U.nodes, length-appended cellWithNext U.cells _ U.taken (newCell b U.filled), refl, refl)
-length-kept r (Length n) U = (length-adjust _ r _ ∙ length-adjust (with_sum n) r U.nodes, length-appended cellWithNext U.cells _ U.taken (newCell n U.filled), refl, refl)
+length-kept r (Number b) U = (length-adjust _ r _ ∙ length-adjust (with_sum 0) r U.nodes, length-appended cell_with_next U.cells _ U.taken (new_cell b U.filled), refl, refl)
+length-kept r (Length n) U = (length-adjust _ r _ ∙ length-adjust (with_sum n) r U.nodes, length-appended cell_with_next U.cells _ U.taken (new_cell n U.filled), refl, refl)
 
 -- nor do its letters
-sizes-lettered : (v : Value) (U : Sheets) → U.filled + length (str (cell v)) ≤ length U.text → sizesOf (lettered (val v) U) ≡ sizesOf U
+sizes-lettered : (v : Value) (U : Sheets) → U.filled + length (str (cell v)) ≤ length U.text → sizes_of (lettered (val v) U) ≡ sizes_of U
 sizes-lettered (scalar k b) U h = refl
 sizes-lettered (text bs) U h = same-sizes U (lettered (val (text bs)) U) refl refl (length-overlaid U.filled bs U.text h)
 sizes-lettered unit U h = refl
@@ -121,24 +121,24 @@ sizes-lettered (tuple n) U h = refl
 
 -- room in tables of these lengths for what the entries take
 pub record Room (T : Sheets) (ts : List Entry) : Type 0 where
-  pub nodes : 1 + length (nodesOf ts) ≤ length T.nodes
-  pub cells : cells_of ts ≤ usableCells (length T.cells)
-  pub letters : lettersOf ts ≤ length T.text
+  pub nodes : 1 + length (nodes_of ts) ≤ length T.nodes
+  pub cells : cells_of ts ≤ usable_cells (length T.cells)
+  pub letters : letters_of ts ≤ length T.text
 
 -- the tables after one value at the record r: they hold it, the child of its index has its record, and no length has changed
 pub record Put (T : Sheets) (ts : List Entry) (r k : ℕ) (p : Path) (v : Value) : Type 0 where
   pub holds : Holds (put r k (val v) T) (ts ++ entry p v ∷ [])
-  pub child : (i : ℕ) → index_of v ≡ options.Some i → Home (nodesOf (ts ++ entry p v ∷ [])) (putChild r k (val v) T) (p ▹ alt i)
-  pub sizes : sizesOf (put r k (val v) T) ≡ sizesOf T
+  pub child : (i : ℕ) → index_of v ≡ options.Some i → Home (nodes_of (ts ++ entry p v ∷ [])) (put_child r k (val v) T) (p ▹ alt i)
+  pub sizes : sizes_of (put r k (val v) T) ≡ sizes_of T
 
-pub puts : (T : Sheets) (ts : List Entry) → Holds T ts → (r : ℕ) (p : Path) → Home (nodesOf ts) r p → (v : Value) → ((q : Path) → at q ts ≢ [] → times q (nodesOf ts) ≡ 1)
-    → (k : ℕ) → Found (nodesOf ts) k p v → Room T (ts ++ entry p v ∷ []) → Put T ts r k p v
+pub puts : (T : Sheets) (ts : List Entry) → Holds T ts → (r : ℕ) (p : Path) → Home (nodes_of ts) r p → (v : Value) → ((q : Path) → at q ts ≢ [] → times q (nodes_of ts) ≡ 1)
+    → (k : ℕ) → Found (nodes_of ts) k p v → Room T (ts ++ entry p v ∷ []) → Put T ts r k p v
 puts T ts H r p home v seen k found room =
     let e = entry p v in
     let m = mark_of (kind v) in
     let fam = marked (at p ts) p (kind v) in
-    let new = newChild (had (λ i. false) (at p ts)) p (branchOf v) in
-    let nodes = ap length (nodes-snoc ts e) ∙ length-append (nodesOf ts) (fam ++ new) in
+    let new = new_child (had (λ i. false) (at p ts)) p (branch_of v) in
+    let nodes = ap length (nodes-snoc ts e) ∙ length-append (nodes_of ts) (fam ++ new) in
     let parts = length-append fam new in
     let used = H.holding.used in
     let within = home.1 in
@@ -147,7 +147,7 @@ puts T ts H r p home v seen k found room =
     let G = touches T ts H r p home v seen (omega arith) in
     let b = beside-touched r m T in
     let V = branched r k (index_of v) U in
-    let B = branches T ts H r p home v seen k found U G (omega (arith, b.nodes)) (λ some. omega (arith, b.nodes, G.used, length-append (nodesOf ts) fam, not_none new some)) in
+    let B = branches T ts H r p home v seen k found U G (omega (arith, b.nodes)) (λ some. omega (arith, b.nodes, G.used, length-append (nodes_of ts) fam, not_none new some)) in
     let d = beside-branched r k (index_of v) U in
     let long = cells-more ts (e ∷ []) in
     let letters = letters-more ts (e ∷ []) in

@@ -5,5 +5,5 @@ use Rattle.ser.specs.declared.records.Cell.{Cell}
 use Rattle.ser.specs.Moves.{Sheets}
 
 -- these records, cells and text bytes, used so far
-abbrev pub sheetsOf : List Node → List Cell → List ℕ → ℕ → ℕ → ℕ → ℕ → Sheets
-sheetsOf ns cs ts u t f m = record { nodes = ns; cells = cs; text = ts; used = u; taken = t; filled = f; marked = m }
+abbrev pub sheets_of : List Node → List Cell → List ℕ → ℕ → ℕ → ℕ → ℕ → Sheets
+sheets_of ns cs ts u t f m = record { nodes = ns; cells = cs; text = ts; used = u; taken = t; filled = f; marked = m }

@@ -2,7 +2,7 @@
 use Rattle.std.specs.Prelude.{ℕ, Bool, true, false, List, [], length, Option, ◌==◌}
 use Rattle.std.specs.declared.option.Option.TheVariants as options
 use Rattle.document.specs.Calls.{Value, scalar, text, unit, none, some, variant, seq, map, tuple, kind, Call, val, end}
-use Rattle.document.specs.Tables.{lengthCells}
+use Rattle.document.specs.Tables.{length_cells}
 use Rattle.nodes.specs.declared.marks.Mark.{Mark}
 use Rattle.nodes.specs.declared.marks.Mark.TheVariants.{Unmarked}
 use Rattle.nodes.specs.Marks.{mark_of}
@@ -10,9 +10,9 @@ use Rattle.ser.specs.declared.loads.Load.{Load}
 use Rattle.ser.specs.declared.loads.Load.TheVariants.{Nothing, Number, Length}
 
 -- the value that a call says; `end` says none, and takes what a unit takes: nothing
-abbrev pub valueIn : Call → Value
-valueIn (val v) = v
-valueIn end = unit
+abbrev pub value_in : Call → Value
+value_in (val v) = v
+value_in end = unit
 
 -- what it marks its node as
 abbrev pub marking : Call → Mark
@@ -37,16 +37,16 @@ loading (val v) = load_of v
 loading end = Nothing
 
 -- the cells that a load takes
-abbrev pub loadCells : Load → ℕ
-loadCells Nothing = 0
-loadCells (Number n) = 1
-loadCells (Length n) = lengthCells n
+abbrev pub load_cells : Load → ℕ
+load_cells Nothing = 0
+load_cells (Number n) = 1
+load_cells (Length n) = length_cells n
 
 -- what it adds to the node's sum of lengths
-abbrev pub loadExtent : Load → ℕ
-loadExtent Nothing = 0
-loadExtent (Number n) = 0
-loadExtent (Length n) = n
+abbrev pub load_extent : Load → ℕ
+load_extent Nothing = 0
+load_extent (Number n) = 0
+load_extent (Length n) = n
 
 -- the index whose child the value that follows stands at
 abbrev pub index_of : Value → Option ℕ
@@ -66,17 +66,17 @@ branching (val v) = index_of v
 branching end = options.None
 
 -- the letters that a call brings
-abbrev pub lettersIn : Call → List ℕ
-lettersIn (val (scalar k b)) = []
-lettersIn (val (text bs)) = bs
-lettersIn (val unit) = []
-lettersIn (val none) = []
-lettersIn (val some) = []
-lettersIn (val (variant i)) = []
-lettersIn (val (seq n)) = []
-lettersIn (val (map n)) = []
-lettersIn (val (tuple n)) = []
-lettersIn end = []
+abbrev pub letters_in : Call → List ℕ
+letters_in (val (scalar k b)) = []
+letters_in (val (text bs)) = bs
+letters_in (val unit) = []
+letters_in (val none) = []
+letters_in (val some) = []
+letters_in (val (variant i)) = []
+letters_in (val (seq n)) = []
+letters_in (val (map n)) = []
+letters_in (val (tuple n)) = []
+letters_in end = []
 
 -- a `tuple 1`, which marks nothing
 abbrev pub is_lone : Call → Bool
@@ -92,14 +92,14 @@ is_lone (val (tuple n)) = n == 1
 is_lone end = false
 
 -- a call that opens a place
-abbrev pub isOpening : Call → Bool
-isOpening (val (scalar k b)) = false
-isOpening (val (text bs)) = false
-isOpening (val unit) = false
-isOpening (val none) = false
-isOpening (val some) = true
-isOpening (val (variant i)) = true
-isOpening (val (seq n)) = true
-isOpening (val (map n)) = true
-isOpening (val (tuple n)) = true
-isOpening end = false
+abbrev pub is_opening : Call → Bool
+is_opening (val (scalar k b)) = false
+is_opening (val (text bs)) = false
+is_opening (val unit) = false
+is_opening (val none) = false
+is_opening (val some) = true
+is_opening (val (variant i)) = true
+is_opening (val (seq n)) = true
+is_opening (val (map n)) = true
+is_opening (val (tuple n)) = true
+is_opening end = false

@@ -4,11 +4,11 @@ use Rattle.document.specs.Calls.{total, extent, cell, num, str}
 use Rattle.document.specs.Nodes.{Path, root, same}
 use Rattle.document.specs.Entries.{Entry, at}
 use Rattle.document.specs.Bytes.{firsts}
-use Rattle.document.specs.Tables.{cells, lettersOf}
-use Rattle.document.specs.Records.{nodesOf}
+use Rattle.document.specs.Tables.{cells, letters_of}
+use Rattle.document.specs.Records.{nodes_of}
 use Rattle.nodes.specs.declared.marks.Mark.{Mark}
-use Rattle.nodes.specs.Marks.{markAt}
-use Rattle.nodes.specs.Homes.{Home, ordinal, isChild, places, Threads}
+use Rattle.nodes.specs.Marks.{mark_at}
+use Rattle.nodes.specs.Homes.{Home, ordinal, is_child, places, Threads}
 use Rattle.ser.specs.Moves.{Sheets, node, cell_at}
 
 -- ---- which cell is whose
@@ -37,11 +37,11 @@ is_held p spare = false
 -- ---- what the records hold
 
 -- the next indices of the nodes, and of the cells
-abbrev pub nodeNexts : Sheets → List ℕ
-nodeNexts T = each (λ n. n.next) T.nodes
+abbrev pub node_nexts : Sheets → List ℕ
+node_nexts T = each (λ n. n.next) T.nodes
 
-abbrev pub cellNexts : Sheets → List ℕ
-cellNexts T = each (λ c. c.next) T.cells
+abbrev pub cell_nexts : Sheets → List ℕ
+cell_nexts T = each (λ c. c.next) T.cells
 
 -- a cell holds a value's number, and says where its letters stand
 abbrev pub Keeps : Sheets → ℕ → Slot → Type 0
@@ -60,11 +60,11 @@ pub record Holding (T : Sheets) (ns : List Path) (mark : Path → Mark) (sum : P
   pub marks : (r : ℕ) (p : Path) → Home ns r p → (node T r).mark ≡ mark p
   pub sums : (r : ℕ) (p : Path) → Home ns r p → (node T r).sum ≡ sum p
   pub indices : (r : ℕ) (p : Path) → Home ns r p → (node T r).index ≡ ordinal p
-  pub children : (r : ℕ) (p : Path) → Home ns r p → Threads (nodeNexts T) (node T r).children (places (isChild p) 1 ns)
-  pub cells : (r : ℕ) (p : Path) → Home ns r p → Threads (cellNexts T) (node T r).cells (places (is_held p) 1 sl)
+  pub children : (r : ℕ) (p : Path) → Home ns r p → Threads (node_nexts T) (node T r).children (places (is_child p) 1 ns)
+  pub cells : (r : ℕ) (p : Path) → Home ns r p → Threads (cell_nexts T) (node T r).cells (places (is_held p) 1 sl)
   pub values : (k : ℕ) → k < length sl → Keeps T (suc k) (slice_index_or sl k spare)
   pub order : (j : ℕ) → j < length fs → Home ns (node T (suc j)).order (slice_index_or fs j root)
 
 -- The tables hold what the entries leave: each node's mark, sum, index, children and cells, each cell's value, and the order of first need.
 pub record Holds (T : Sheets) (ts : List Entry) : Type 0 where
-  pub holding : Holding T (nodesOf ts) (λ p. markAt (at p ts)) (λ p. total extent (at p ts)) (slots_of ts) (firsts ts) (lettersOf ts)
+  pub holding : Holding T (nodes_of ts) (λ p. mark_at (at p ts)) (λ p. total extent (at p ts)) (slots_of ts) (firsts ts) (letters_of ts)

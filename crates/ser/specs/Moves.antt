@@ -7,7 +7,7 @@ use Rattle.chain.specs.Chains.{adjust, appended, longer, course}
 use Rattle.document.specs.Calls.{scalar, text, unit, none, some, variant, seq, map, tuple, Call, val, end}
 use Rattle.nodes.specs.declared.marks.Mark.{Mark}
 use Rattle.nodes.specs.declared.marks.Mark.TheVariants as marks
-use Rattle.nodes.specs.Marks.{markNumber, familyOf}
+use Rattle.nodes.specs.Marks.{mark_number, family_of}
 use Rattle.nodes.specs.Children.{seek}
 use Rattle.ser.specs.declared.records.Node.{Node}
 use Rattle.ser.specs.declared.records.Cell.{Cell}
@@ -19,40 +19,40 @@ use Rattle.ser.specs.Brings.{marking, loading, branching, is_lone}
 -- ---- records
 
 -- a chain of no record
-abbrev pub noChain : Chain
-noChain = record { first = 0; last = 0 }
+abbrev pub no_chain : Chain
+no_chain = record { first = 0; last = 0 }
 
 -- a record of a child with this index, without a value
 abbrev pub child : ℕ → Node
-child i = record { mark = marks.Unmarked; sum = 0; index = i; next = 0; children = noChain; cells = noChain; order = 0 }
+child i = record { mark = marks.Unmarked; sum = 0; index = i; next = 0; children = no_chain; cells = no_chain; order = 0 }
 
-abbrev pub blankNode : Node
-blankNode = child 0
+abbrev pub blank_node : Node
+blank_node = child 0
 
-abbrev pub blankCell : Cell
-blankCell = record { value = 0; start = 0; next = 0 }
+abbrev pub blank_cell : Cell
+blank_cell = record { value = 0; start = 0; next = 0 }
 
 -- a record with another field
-abbrev pub withNext : Node → ℕ → Node
-withNext n k = record { mark = n.mark; sum = n.sum; index = n.index; next = k; children = n.children; cells = n.cells; order = n.order }
+abbrev pub with_next : Node → ℕ → Node
+with_next n k = record { mark = n.mark; sum = n.sum; index = n.index; next = k; children = n.children; cells = n.cells; order = n.order }
 
-abbrev pub withMark : Mark → Node → Node
-withMark m n = record { mark = m; sum = n.sum; index = n.index; next = n.next; children = n.children; cells = n.cells; order = n.order }
+abbrev pub with_mark : Mark → Node → Node
+with_mark m n = record { mark = m; sum = n.sum; index = n.index; next = n.next; children = n.children; cells = n.cells; order = n.order }
 
 abbrev pub with_sum : ℕ → Node → Node
 with_sum x n = record { mark = n.mark; sum = n.sum + x; index = n.index; next = n.next; children = n.children; cells = n.cells; order = n.order }
 
-abbrev pub withChildren : Chain → Node → Node
-withChildren c n = record { mark = n.mark; sum = n.sum; index = n.index; next = n.next; children = c; cells = n.cells; order = n.order }
+abbrev pub with_children : Chain → Node → Node
+with_children c n = record { mark = n.mark; sum = n.sum; index = n.index; next = n.next; children = c; cells = n.cells; order = n.order }
 
-abbrev pub withCells : Chain → Node → Node
-withCells c n = record { mark = n.mark; sum = n.sum; index = n.index; next = n.next; children = n.children; cells = c; order = n.order }
+abbrev pub with_cells : Chain → Node → Node
+with_cells c n = record { mark = n.mark; sum = n.sum; index = n.index; next = n.next; children = n.children; cells = c; order = n.order }
 
-abbrev pub withOrder : ℕ → Node → Node
-withOrder r n = record { mark = n.mark; sum = n.sum; index = n.index; next = n.next; children = n.children; cells = n.cells; order = r }
+abbrev pub with_order : ℕ → Node → Node
+with_order r n = record { mark = n.mark; sum = n.sum; index = n.index; next = n.next; children = n.children; cells = n.cells; order = r }
 
-abbrev pub cellWithNext : Cell → ℕ → Cell
-cellWithNext c k = record { value = c.value; start = c.start; next = k }
+abbrev pub cell_with_next : Cell → ℕ → Cell
+cell_with_next c k = record { value = c.value; start = c.start; next = k }
 
 -- ---- tables
 
@@ -71,20 +71,20 @@ sheets t = record { nodes = vec_items t.nodes; cells = vec_items t.cells; text =
 
 -- a node's record, a blank one past the table's end
 abbrev pub node : Sheets → ℕ → Node
-node T r = slice_index_or T.nodes r blankNode
+node T r = slice_index_or T.nodes r blank_node
 
 abbrev pub cell_at : Sheets → ℕ → Cell
-cell_at T k = slice_index_or T.cells k blankCell
+cell_at T k = slice_index_or T.cells k blank_cell
 
 -- a node without a value
-abbrev pub isFresh : Sheets → ℕ → Bool
-isFresh T r = markNumber (node T r).mark == 0
+abbrev pub is_fresh : Sheets → ℕ → Bool
+is_fresh T r = mark_number (node T r).mark == 0
 
 -- a new record, as the last child of r
 abbrev pub spawned : ℕ → ℕ → Sheets → Sheets
 spawned r i T =
     record {
-      nodes = adjust (withChildren (longer (node T r).children T.used)) r (appended withNext T.nodes (node T r).children.last T.used (child i));
+      nodes = adjust (with_children (longer (node T r).children T.used)) r (appended with_next T.nodes (node T r).children.last T.used (child i));
       cells = T.cells;
       text = T.text;
       used = T.used + 1;
@@ -102,7 +102,7 @@ grown r (suc n) T = spawned r n (grown r n T)
 abbrev pub named : ℕ → Mark → Sheets → Sheets
 named r m T =
     record {
-      nodes = adjust (withOrder r) (T.marked + 1) (adjust (withMark m) r T.nodes);
+      nodes = adjust (with_order r) (T.marked + 1) (adjust (with_mark m) r T.nodes);
       cells = T.cells;
       text = T.text;
       used = T.used;
@@ -113,14 +113,14 @@ named r m T =
 
 -- a first value marks its node, whose children come with it
 abbrev pub touched : ℕ → Mark → Sheets → Sheets
-touched r m T = cond (isFresh T r) (grown r (familyOf m) (named r m T)) T
+touched r m T = cond (is_fresh T r) (grown r (family_of m) (named r m T)) T
 
 -- a value goes to a cell, as the last of r's; the tables are charged so many cells
 abbrev pub celled : ℕ → ℕ → ℕ → ℕ → Sheets → Sheets
 celled r v more x T =
     record {
-      nodes = adjust (withCells (longer (node T r).cells T.taken)) r (adjust (with_sum x) r T.nodes);
-      cells = appended cellWithNext T.cells (node T r).cells.last T.taken (record { value = v; start = T.filled; next = 0 });
+      nodes = adjust (with_cells (longer (node T r).cells T.taken)) r (adjust (with_sum x) r T.nodes);
+      cells = appended cell_with_next T.cells (node T r).cells.last T.taken (record { value = v; start = T.filled; next = 0 });
       text = T.text;
       used = T.used;
       taken = T.taken + more;
@@ -154,13 +154,13 @@ lettered end T = T
 -- ---- the child of an index
 
 -- the child of r with the index
-abbrev pub childOf : Sheets → ℕ → ℕ → ℕ
-childOf T r i = seek (each (λ n. n.index) T.nodes) i (course (each (λ n. n.next) T.nodes) (node T r).children.first)
+abbrev pub child_of : Sheets → ℕ → ℕ → ℕ
+child_of T r i = seek (each (λ n. n.index) T.nodes) i (course (each (λ n. n.next) T.nodes) (node T r).children.first)
 
 -- the child of an index that a call has
-abbrev pub branchIn : Sheets → ℕ → Option ℕ → ℕ
-branchIn T r options.None = 0
-branchIn T r (options.Some i) = childOf T r i
+abbrev pub branch_in : Sheets → ℕ → Option ℕ → ℕ
+branch_in T r options.None = 0
+branch_in T r (options.Some i) = child_of T r i
 
 -- a new index gets a record; k is its child as it was found
 abbrev pub branched : ℕ → ℕ → Option ℕ → Sheets → Sheets
@@ -168,9 +168,9 @@ branched r k options.None T = T
 branched r k (options.Some i) T = cond (k == 0) (spawned r i T) T
 
 -- the record of the child then
-abbrev pub branchThen : ℕ → Option ℕ → Sheets → ℕ
-branchThen k options.None T = k
-branchThen k (options.Some i) T = cond (k == 0) T.used k
+abbrev pub branch_then : ℕ → Option ℕ → Sheets → ℕ
+branch_then k options.None T = k
+branch_then k (options.Some i) T = cond (k == 0) T.used k
 
 -- ---- a call
 
@@ -179,25 +179,25 @@ abbrev pub put : ℕ → ℕ → Call → Sheets → Sheets
 put r k c T = lettered c (kept r (loading c) (branched r k (branching c) (touched r (marking c) T)))
 
 -- the child of its index
-abbrev pub putChild : ℕ → ℕ → Call → Sheets → ℕ
-putChild r k c T = branchThen k (branching c) (touched r (marking c) T)
+abbrev pub put_child : ℕ → ℕ → Call → Sheets → ℕ
+put_child r k c T = branch_then k (branching c) (touched r (marking c) T)
 
 -- a `none` is followed by its unit
-abbrev pub unitAfter : Call → ℕ → Sheets → Sheets
-unitAfter (val (scalar k b)) r T = T
-unitAfter (val (text bs)) r T = T
-unitAfter (val unit) r T = T
-unitAfter (val none) r T = touched r marks.Unit T
-unitAfter (val some) r T = T
-unitAfter (val (variant i)) r T = T
-unitAfter (val (seq n)) r T = T
-unitAfter (val (map n)) r T = T
-unitAfter (val (tuple n)) r T = T
-unitAfter end r T = T
+abbrev pub unit_after : Call → ℕ → Sheets → Sheets
+unit_after (val (scalar k b)) r T = T
+unit_after (val (text bs)) r T = T
+unit_after (val unit) r T = T
+unit_after (val none) r T = touched r marks.Unit T
+unit_after (val some) r T = T
+unit_after (val (variant i)) r T = T
+unit_after (val (seq n)) r T = T
+unit_after (val (map n)) r T = T
+unit_after (val (tuple n)) r T = T
+unit_after end r T = T
 
 -- all that a call does to the tables at r, and the child of its index then
 abbrev pub entered : ℕ → ℕ → Call → Sheets → Sheets
-entered r k c T = cond (is_lone c) T (unitAfter c (putChild r k c T) (put r k c T))
+entered r k c T = cond (is_lone c) T (unit_after c (put_child r k c T) (put r k c T))
 
-abbrev pub enteredChild : ℕ → ℕ → Call → Sheets → ℕ
-enteredChild r k c T = cond (is_lone c) k (putChild r k c T)
+abbrev pub entered_child : ℕ → ℕ → Call → Sheets → ℕ
+entered_child r k c T = cond (is_lone c) k (put_child r k c T)

@@ -9,26 +9,26 @@ use Rattle.chain.specs.Chains.{course}
 use Rattle.document.specs.declared.refusals.Refusal.{Refusal}
 use Rattle.document.specs.declared.refusals.Refusal.TheVariants as refusals
 use Rattle.document.specs.Calls.{width}
-use Rattle.document.specs.Columns.{lengthBytes, joined}
+use Rattle.document.specs.Columns.{length_bytes, joined}
 use Rattle.nodes.specs.declared.marks.Mark.{Mark}
 use Rattle.nodes.specs.declared.marks.Mark.TheVariants as marks
 use Rattle.ser.specs.declared.records.Node.{Node}
 use Rattle.ser.specs.declared.records.Cell.{Cell}
-use Rattle.ser.specs.Moves.{Sheets, node, blankCell}
+use Rattle.ser.specs.Moves.{Sheets, node, blank_cell}
 
 -- ---- what the cells of a chain hold
 
 -- the cells of a chain, one after another
-abbrev pub inChain : List Cell → Chain → List ℕ
-inChain cs chain = course (each (λ c. c.next) cs) chain.first
+abbrev pub in_chain : List Cell → Chain → List ℕ
+in_chain cs chain = course (each (λ c. c.next) cs) chain.first
 
 -- the value of a cell
 abbrev pub value_at : List Cell → ℕ → ℕ
-value_at cs k = (slice_index_or cs k blankCell).value
+value_at cs k = (slice_index_or cs k blank_cell).value
 
 -- where its text begins
 abbrev pub start_at : List Cell → ℕ → ℕ
-start_at cs k = (slice_index_or cs k blankCell).start
+start_at cs k = (slice_index_or cs k blank_cell).start
 
 -- its text
 abbrev pub piece_at : List Cell → List ℕ → ℕ → List ℕ
@@ -36,41 +36,41 @@ piece_at cs text k = take (value_at cs k) (drop (start_at cs k) text)
 
 -- the values of a chain's cells
 abbrev pub values_of : List Cell → Chain → List ℕ
-values_of cs chain = each (value_at cs) (inChain cs chain)
+values_of cs chain = each (value_at cs) (in_chain cs chain)
 
 -- their texts
 abbrev pub pieces_of : List Cell → List ℕ → Chain → List (List ℕ)
-pieces_of cs text chain = each (piece_at cs text) (inChain cs chain)
+pieces_of cs text chain = each (piece_at cs text) (in_chain cs chain)
 
 -- ---- the bytes
 
 -- a node's bytes by its mark: the columns of its values, and of texts all pieces after them
-abbrev pub imageBy : Meaning → Mark → List ℕ → List (List ℕ) → List ℕ
-imageBy col marks.Unmarked vs ts = []
-imageBy col (marks.Scalar k) vs ts = col.image (width k) vs
-imageBy col marks.Text vs ts = lengthBytes col vs ++ joined ts
-imageBy col marks.Seq vs ts = lengthBytes col vs
-imageBy col marks.Map vs ts = lengthBytes col vs
-imageBy col marks.Enum vs ts = col.image 8 vs
-imageBy col marks.Unit vs ts = []
-imageBy col (marks.Tuple n) vs ts = []
+abbrev pub image_by : Meaning → Mark → List ℕ → List (List ℕ) → List ℕ
+image_by col marks.Unmarked vs ts = []
+image_by col (marks.Scalar k) vs ts = col.image (width k) vs
+image_by col marks.Text vs ts = length_bytes col vs ++ joined ts
+image_by col marks.Seq vs ts = length_bytes col vs
+image_by col marks.Map vs ts = length_bytes col vs
+image_by col marks.Enum vs ts = col.image 8 vs
+image_by col marks.Unit vs ts = []
+image_by col (marks.Tuple n) vs ts = []
 
 -- the bytes of a node's record
-abbrev pub nodeImage : Meaning → List Cell → List ℕ → Node → List ℕ
-nodeImage col cs text n = imageBy col n.mark (values_of cs n.cells) (pieces_of cs text n.cells)
+abbrev pub node_image : Meaning → List Cell → List ℕ → Node → List ℕ
+node_image col cs text n = image_by col n.mark (values_of cs n.cells) (pieces_of cs text n.cells)
 
 -- the record that was marked as the j-th, from 0 on
 abbrev pub ordered : Sheets → ℕ → Node
 ordered T j = node T (node T (suc j)).order
 
 -- the bytes of the first n records that were marked
-abbrev pub imageUpTo : Meaning → Sheets → ℕ → List ℕ
-imageUpTo col T zero = []
-imageUpTo col T (suc n) = imageUpTo col T n ++ nodeImage col T.cells T.text (ordered T n)
+abbrev pub image_up_to : Meaning → Sheets → ℕ → List ℕ
+image_up_to col T zero = []
+image_up_to col T (suc n) = image_up_to col T n ++ node_image col T.cells T.text (ordered T n)
 
 -- the bytes of all of them
 unfoldable pub image_of : Meaning → Sheets → List ℕ
-image_of col T = imageUpTo col T T.marked
+image_of col T = image_up_to col T T.marked
 
 -- ---- what the code needs
 
@@ -102,9 +102,9 @@ PiecesBy (marks.Tuple n) cs text ks = Unit {0}
 
 -- of one record, with a scratch of n elements: its cells are no more, its values fit, and its pieces lie within the text
 pub record NodeSafe (cs : List Cell) (text : List ℕ) (n : ℕ) (r : Node) : Type 0 where
-  pub few : length (inChain cs r.cells) ≤ n
+  pub few : length (in_chain cs r.cells) ≤ n
   pub fits : FitsMark r.mark (values_of cs r.cells)
-  pub pieces : PiecesBy r.mark cs text (inChain cs r.cells)
+  pub pieces : PiecesBy r.mark cs text (in_chain cs r.cells)
 
 -- of the tables: the records that were marked lie within the node table, and each is safe
 pub record OutSafe (T : Sheets) (n : ℕ) : Type 0 where
@@ -133,15 +133,15 @@ wrote complete cells image scratch output =
     cond complete (cond (nat_le cells (length scratch)) (ending (length image) (length output)) (Err refusals.Scratch)) (Err refusals.Early)
 
 -- the scratch then: zero, if write-out begins
-abbrev pub scratchAfter : Bool → List ℕ → List ℕ
-scratchAfter begun scratch = cond begun (replicate (length scratch) 0) scratch
+abbrev pub scratch_after : Bool → List ℕ → List ℕ
+scratch_after begun scratch = cond begun (replicate (length scratch) 0) scratch
 
 -- the output then: if write-out begins, the bytes from the first place on, and zero where they find no room
-abbrev pub outputAfter : Bool → List ℕ → List ℕ → List ℕ
-outputAfter begun image output = cond begun (cond (nat_le (length image) (length output)) (overlaid 0 image output) (replicate (length output) 0)) output
+abbrev pub output_after : Bool → List ℕ → List ℕ → List ℕ
+output_after begun image output = cond begun (cond (nat_le (length image) (length output)) (overlaid 0 image output) (replicate (length output) 0)) output
 
 -- what write-out does: its answer, and both buffers
 pub record Wrote (complete : Bool) (cells : ℕ) (image scratch output cleared bytes : List ℕ) (r : Result ℕ Refusal) : Type 0 where
   pub answer : r ≡ wrote complete cells image scratch output
-  pub scratch-is : cleared ≡ scratchAfter (begins complete cells scratch) scratch
-  pub output-is : bytes ≡ outputAfter (begins complete cells scratch) image output
+  pub scratch-is : cleared ≡ scratch_after (begins complete cells scratch) scratch
+  pub output-is : bytes ≡ output_after (begins complete cells scratch) image output

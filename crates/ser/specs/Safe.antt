@@ -4,16 +4,16 @@ use Rattle.document.specs.Columns.{limit}
 use Rattle.nodes.specs.Stack.{top}
 use Rattle.nodes.specs.Ahead.{Aims}
 use Rattle.ser.specs.declared.desk.Desk.{Desk}
-use Rattle.ser.specs.Moves.{Sheets, sheets, node, isFresh, childOf}
+use Rattle.ser.specs.Moves.{Sheets, sheets, node, is_fresh, child_of}
 
 -- of one record in use: its sum, the ends of its chains, and, without a value, that it has no child and that there is room in the order of marking
 pub record RowSafe (T : Sheets) (r : ℕ) : Type 0 where
   pub sum : (node T r).sum < limit
   pub tail : (node T r).children.last < T.used
   pub last : (node T r).cells.last < T.taken
-  pub room : isFresh T r ≡ true → T.marked + 1 < T.used
-  pub bare : isFresh T r ≡ true → (node T r).children.first ≤ 0
-  pub kin : (i : ℕ) → childOf T r i < T.used
+  pub room : is_fresh T r ≡ true → T.marked + 1 < T.used
+  pub bare : is_fresh T r ≡ true → (node T r).children.first ≤ 0
+  pub kin : (i : ℕ) → child_of T r i < T.used
 
 -- of the tables
 pub record RowsSafe (T : Sheets) : Type 0 where

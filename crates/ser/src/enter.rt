@@ -4,16 +4,16 @@ ghost use Rattle.std.specs.Prelude.{◌≡◌, ◌+◌, ◌^◌, ◌<◌, ◌≤
 ghost use Rattle.column.specs.Interface.{overlaid};
 ghost use Rattle.chain.specs.Chains.{adjust, appended, longer};
 ghost use Rattle.document.specs.Columns.{limit};
-ghost use Rattle.document.specs.Verdict.{highIndex, illFormed};
+ghost use Rattle.document.specs.Verdict.{high_index, ill_formed};
 ghost use Rattle.document.specs.Calls.{val, none};
 ghost use Rattle.document.specs.Said.{said};
-ghost use Rattle.nodes.specs.declared.marks.Mark.TheVariants.{Unit as unitMark};
-ghost use Rattle.ser.specs.Steps.{openedAt, entering, entered_at};
+ghost use Rattle.nodes.specs.declared.marks.Mark.TheVariants.{Unit as unit_mark};
+ghost use Rattle.ser.specs.Steps.{opened_at, entering, entered_at};
 ghost use Rattle.ser.specs.Safe.{RowsSafe};
-ghost use Rattle.ser.specs.Brings.{valueIn, loadCells, loadExtent, loading, lettersIn, is_lone};
-ghost use Rattle.ser.specs.Moves.{sheets, node, isFresh, childOf, branchIn, child as childRecord, blankNode, withMark, withOrder, withChildren, withCells, with_sum, spawned, named, grown, touched, celled, kept, written, lettered, branched, branchThen, put, putChild, unitAfter, entered, enteredChild};
+ghost use Rattle.ser.specs.Brings.{value_in, load_cells, load_extent, loading, letters_in, is_lone};
+ghost use Rattle.ser.specs.Moves.{sheets, node, is_fresh, child_of, branch_in, child as child_record, blank_node, with_mark, with_order, with_children, with_cells, with_sum, spawned, named, grown, touched, celled, kept, written, lettered, branched, branch_then, put, put_child, unit_after, entered, entered_child};
 ghost use Rattle.ser.specs.Bounds.{GrowSafe, TouchSafe, BranchSafe, KeepSafe, PutSafe};
-ghost use Rattle.ser.specs.Tables.{isOther, noUnit, strangeAt, nodesFor, lacksNodes, lacksCells, lacksText, isTooLong, weighedAt};
+ghost use Rattle.ser.specs.Tables.{is_other, no_unit, strange_at, nodes_for, lacks_nodes, lacks_cells, lacks_text, is_too_long, weighed_at};
 
 use crate::loads::{Load, index_of, is_lone, load_of, mark_of};
 use crate::records::{Cell, Node};
@@ -45,7 +45,7 @@ const LAST_INDEX: u32 = 255;
 impl Load {
     /// How many cells it takes.
     fn cells(self) -> usize
-        ensures { result ≡ loadCells self }
+        ensures { result ≡ load_cells self }
     {
         match self {
             Load::Nothing => 0,
@@ -56,7 +56,7 @@ impl Load {
 
     /// What it adds to the sum of lengths.
     fn extent(self) -> u64
-        ensures { result ≡ loadExtent self }
+        ensures { result ≡ load_extent self }
     {
         match self {
             Load::Nothing | Load::Number(_) => 0,
@@ -67,7 +67,7 @@ impl Load {
 
 /// Whether the call has an index above the highest.
 fn is_high(call: Call) -> bool
-    ensures { result ≡ highIndex (valueIn (said call.entry)) }
+    ensures { result ≡ high_index (value_in (said call.entry)) }
 {
     match call {
         Call::Variant(i) => i > LAST_INDEX,
@@ -77,7 +77,7 @@ fn is_high(call: Call) -> bool
 
 /// Whether the call is a text that is not well-formed.
 fn is_ill_formed(call: Call) -> bool
-    ensures { result ≡ illFormed (valueIn (said call.entry)) }
+    ensures { result ≡ ill_formed (value_in (said call.entry)) }
 {
     match call {
         Call::Text(letters) => well_formed(letters).is_err(),
@@ -87,7 +87,7 @@ fn is_ill_formed(call: Call) -> bool
 
 /// The number of text bytes that the call brings.
 fn letters(call: Call) -> usize
-    ensures { result ≡ length (lettersIn (said call.entry)) }
+    ensures { result ≡ length (letters_in (said call.entry)) }
 {
     match call {
         Call::Text(letters) => letters.len(),
@@ -97,7 +97,7 @@ fn letters(call: Call) -> usize
 
 /// The record of a new child.
 fn new_child(index: u32) -> Node
-    ensures { result ≡ childRecord index }
+    ensures { result ≡ child_record index }
 {
     let mut record = Node::blank();
     record.index = index;
@@ -119,21 +119,21 @@ impl Tables {
 
     /// Whether no value stands at the record r.
     fn is_fresh(&self, r: usize) -> bool
-        ensures { result ≡ isFresh (sheets self.now) r }
+        ensures { result ≡ is_fresh (sheets self.now) r }
     {
         self.look(r).mark.is(Mark::Unmarked)
     }
 
     /// The record of the child with this index, 0 where there is none.
     fn child(&self, r: usize, index: u32) -> usize
-        ensures { result ≡ childOf (sheets self.now) r index }
+        ensures { result ≡ child_of (sheets self.now) r index }
     {
         find(&self.nodes, self.look(r).children, index)
     }
 
     /// The record of the child with this index, 0 where there is none, or no index.
     fn branch(&self, r: usize, index: Option<u32>) -> usize
-        ensures { result ≡ branchIn (sheets self.now) r index }
+        ensures { result ≡ branch_in (sheets self.now) r index }
     {
         match index {
             Some(i) => self.child(r, i),
@@ -143,7 +143,7 @@ impl Tables {
 
     /// Whether the record is marked otherwise.
     fn is_other(&self, r: usize, mark: Mark) -> bool
-        ensures { result ≡ isOther (sheets self.now) r mark }
+        ensures { result ≡ is_other (sheets self.now) r mark }
     {
         let old = self.look(r).mark;
         !old.is(Mark::Unmarked) && !old.is(mark)
@@ -151,7 +151,7 @@ impl Tables {
 
     /// Whether the call is a `none` and its child no unit.
     fn is_no_unit(&self, child: usize, call: Call) -> bool
-        ensures { result ≡ noUnit (sheets self.now) child (said call.entry) }
+        ensures { result ≡ no_unit (sheets self.now) child (said call.entry) }
     {
         match call {
             Call::None => child != 0 && self.is_other(child, Mark::Unit),
@@ -161,14 +161,14 @@ impl Tables {
 
     /// Whether the call is of another kind than its node, or its unit than the child.
     fn is_strange(&self, r: usize, child: usize, call: Call) -> bool
-        ensures { result ≡ strangeAt (sheets self.now) r child (said call.entry) }
+        ensures { result ≡ strange_at (sheets self.now) r child (said call.entry) }
     {
         !is_lone(call) && (self.is_other(r, mark_of(call)) || self.is_no_unit(child, call))
     }
 
     /// The node records that the call takes.
     fn nodes_for(&self, r: usize, child: usize, call: Call) -> u64
-        ensures answer { result ≡ nodesFor (sheets self.now) r child (said call.entry) }
+        ensures answer { result ≡ nodes_for (sheets self.now) r child (said call.entry) }
         ensures few { result < 2 ^ 33 }
     {
         let family = if is_lone(call) || !self.is_fresh(r) {
@@ -185,7 +185,7 @@ impl Tables {
     /// Whether there is no room for the node records that the call takes.
     fn lacks_nodes(&self, r: usize, child: usize, call: Call) -> bool
         requires { self.now.used ≤ 65536 }
-        ensures { result ≡ lacksNodes (sheets self.now) (nodesFor (sheets self.now) r child (said call.entry)) }
+        ensures { result ≡ lacks_nodes (sheets self.now) (nodes_for (sheets self.now) r child (said call.entry)) }
     {
         self.used as u64 + self.nodes_for(r, child, call) > self.nodes.len().min(MOST_NODES) as u64
     }
@@ -193,7 +193,7 @@ impl Tables {
     /// Whether there is no room for the cells that the call takes.
     fn lacks_cells(&self, call: Call) -> bool
         requires { self.now.taken ≤ 1048576 }
-        ensures { result ≡ lacksCells (sheets self.now) (loadCells (loading (said call.entry))) }
+        ensures { result ≡ lacks_cells (sheets self.now) (load_cells (loading (said call.entry))) }
     {
         let more = load_of(call).cells();
         more != 0 && self.taken + more > self.cells.len().min(MOST_CELLS)
@@ -202,7 +202,7 @@ impl Tables {
     /// Whether the sum of the lengths at r would come to the limit.
     fn is_too_long(&self, r: usize, call: Call) -> bool
         requires { (node (sheets self.now) r).sum < limit }
-        ensures { result ≡ isTooLong (sheets self.now) r (loadExtent (loading (said call.entry))) }
+        ensures { result ≡ is_too_long (sheets self.now) r (load_extent (loading (said call.entry))) }
     {
         load_of(call).extent() >= LIMIT - self.look(r).sum
     }
@@ -210,7 +210,7 @@ impl Tables {
     /// Whether there is no room for the text that the call brings.
     fn lacks_text(&self, call: Call) -> bool
         requires { (self.now.filled ≤ vec_len self.now.text) × (self.now.filled ≤ 16777216) }
-        ensures { result ≡ lacksText (sheets self.now) (length (lettersIn (said call.entry))) }
+        ensures { result ≡ lacks_text (sheets self.now) (length (letters_in (said call.entry))) }
     {
         letters(call) > self.text.len().min(MOST_TEXT) - self.filled
     }
@@ -221,7 +221,7 @@ impl Tables {
         requires cells { self.now.taken ≤ 1048576 }
         requires text { (self.now.filled ≤ vec_len self.now.text) × (self.now.filled ≤ 16777216) }
         requires sum { (node (sheets self.now) r).sum < limit }
-        ensures { result ≡ weighedAt (sheets self.now) r child (said call.entry) }
+        ensures { result ≡ weighed_at (sheets self.now) r child (said call.entry) }
     {
         if self.is_strange(r, child, call) {
             return Err(Refusal::Kind);
@@ -254,7 +254,7 @@ impl Tables {
 fn attach<R: Linked>(table: &mut [R], chain: Chain, place: usize, record: R) -> Chain
     requires { (0 < place) × ((place < length table.old) × (chain.last < length table.old)) }
     ensures answer { result ≡ longer chain place }
-    ensures table { table.new ≡ appended R.Linked.withNext table.old chain.last place «record» }
+    ensures table { table.new ≡ appended R.Linked.with_next table.old chain.last place «record» }
 {
     match append(table, chain, place, record) {
         Ok(longer) => longer,
@@ -265,7 +265,7 @@ fn attach<R: Linked>(table: &mut [R], chain: Chain, place: usize, record: R) -> 
 /// The record r gets a mark.
 fn set_mark(nodes: &mut [Node], r: usize, mark: Mark)
     requires { r < length nodes.old }
-    ensures { nodes.new ≡ adjust (withMark mark) r nodes.old }
+    ensures { nodes.new ≡ adjust (with_mark mark) r nodes.old }
 {
     nodes[r].mark = mark;
 }
@@ -273,7 +273,7 @@ fn set_mark(nodes: &mut [Node], r: usize, mark: Mark)
 /// The record j tells of r in the order of marking.
 fn set_order(nodes: &mut [Node], j: usize, r: usize)
     requires { j < length nodes.old }
-    ensures { nodes.new ≡ adjust (withOrder r) j nodes.old }
+    ensures { nodes.new ≡ adjust (with_order r) j nodes.old }
 {
     nodes[j].order = r;
 }
@@ -281,7 +281,7 @@ fn set_order(nodes: &mut [Node], j: usize, r: usize)
 /// The record r gets another chain of children.
 fn set_children(nodes: &mut [Node], r: usize, chain: Chain)
     requires { r < length nodes.old }
-    ensures { nodes.new ≡ adjust (withChildren chain) r nodes.old }
+    ensures { nodes.new ≡ adjust (with_children chain) r nodes.old }
 {
     nodes[r].children = chain;
 }
@@ -289,7 +289,7 @@ fn set_children(nodes: &mut [Node], r: usize, chain: Chain)
 /// The record r gets another chain of cells.
 fn set_cells(nodes: &mut [Node], r: usize, chain: Chain)
     requires { r < length nodes.old }
-    ensures { nodes.new ≡ adjust (withCells chain) r nodes.old }
+    ensures { nodes.new ≡ adjust (with_cells chain) r nodes.old }
 {
     nodes[r].cells = chain;
 }
@@ -297,7 +297,7 @@ fn set_cells(nodes: &mut [Node], r: usize, chain: Chain)
 /// The sum of the record r grows.
 fn add_sum(nodes: &mut [Node], r: usize, more: u64)
     requires within { r < length nodes.old }
-    requires room { (slice_index_or nodes.old r blankNode).sum + more < 2 ^ 64 }
+    requires room { (slice_index_or nodes.old r blank_node).sum + more < 2 ^ 64 }
     ensures { nodes.new ≡ adjust (with_sum more) r nodes.old }
 {
     nodes[r].sum += more;
@@ -361,7 +361,7 @@ impl Tables {
     /// A new index gets a record; answers the index's record.
     fn branch_out(&mut self, r: usize, child: usize, index: Option<u32>) -> usize
         requires { BranchSafe (sheets self.old) r child index }
-        ensures place { result ≡ branchThen child index (sheets self.old) }
+        ensures place { result ≡ branch_then child index (sheets self.old) }
         ensures tables { sheets self.new ≡ branched r child index (sheets self.old) }
     {
         match index {
@@ -412,7 +412,7 @@ impl Tables {
 
     /// The letters of a call.
     fn letter(&mut self, call: Call)
-        requires { self.old.filled + length (lettersIn (said call)) ≤ length self.old.text.items }
+        requires { self.old.filled + length (letters_in (said call)) ≤ length self.old.text.items }
         ensures { sheets self.new ≡ lettered (said call.entry) (sheets self.old) }
     {
         if let Call::Text(letters) = call {
@@ -423,7 +423,7 @@ impl Tables {
     /// One value at the record r; answers the record of its index's child.
     fn put(&mut self, r: usize, child: usize, call: Call) -> usize
         requires { PutSafe (sheets self.old) r child (said call) }
-        ensures place { result ≡ putChild r child (said call.entry) (sheets self.old) }
+        ensures place { result ≡ put_child r child (said call.entry) (sheets self.old) }
         ensures tables { sheets self.new ≡ put r child (said call.entry) (sheets self.old) }
     {
         self.touch(r, mark_of(call));
@@ -435,8 +435,8 @@ impl Tables {
 
     /// The unit that follows a `none`, at its child.
     fn unit_after(&mut self, child: usize, call: Call)
-        requires { said call ≡ val none → TouchSafe (sheets self.old) child unitMark }
-        ensures { sheets self.new ≡ unitAfter (said call.entry) child (sheets self.old) }
+        requires { said call ≡ val none → TouchSafe (sheets self.old) child unit_mark }
+        ensures { sheets self.new ≡ unit_after (said call.entry) child (sheets self.old) }
     {
         if let Call::None = call {
             self.touch(child, Mark::Unit);
@@ -446,8 +446,8 @@ impl Tables {
     /// All that a call does to the tables at r; answers the record of its index's child.
     fn put_all(&mut self, r: usize, child: usize, call: Call) -> usize
         requires put { is_lone (said call) ≡ false → PutSafe (sheets self.old) r child (said call) }
-        requires unit { said call ≡ val none → TouchSafe (put r child (said call) (sheets self.old)) (putChild r child (said call) (sheets self.old)) unitMark }
-        ensures place { result ≡ enteredChild r child (said call.entry) (sheets self.old) }
+        requires unit { said call ≡ val none → TouchSafe (put r child (said call) (sheets self.old)) (put_child r child (said call) (sheets self.old)) unit_mark }
+        ensures place { result ≡ entered_child r child (said call.entry) (sheets self.old) }
         ensures tables { sheets self.new ≡ entered r child (said call.entry) (sheets self.old) }
     {
         if is_lone(call) {
@@ -460,7 +460,7 @@ impl Tables {
 
     /// The place that a value at r opens; `child` is the record of its index's child.
     fn opened(&self, r: usize, child: usize, call: Call) -> Option<State>
-        ensures { result ≡ openedAt (sheets self.now) r child (said call.entry) }
+        ensures { result ≡ opened_at (sheets self.now) r child (said call.entry) }
     {
         let first = self.look(r).children.first;
         match call {

@@ -3,7 +3,7 @@
 ghost use Rattle.std.specs.Prelude.{◌≡◌};
 ghost use Rattle.document.specs.Said.{said};
 ghost use Rattle.document.specs.Verdict.{Real};
-ghost use Rattle.ser.specs.Brings.{marking, loading, branching, is_lone, isOpening};
+ghost use Rattle.ser.specs.Brings.{marking, loading, branching, is_lone, is_opening};
 
 use document::calls::Call;
 use nodes::marks::Mark;
@@ -75,7 +75,7 @@ pub(crate) fn is_lone(call: Call) -> bool
 
 /// Whether the call opens a place.
 pub(crate) fn is_opening(call: Call) -> bool
-    ensures answer { result ≡ isOpening (said call.entry) }
+    ensures answer { result ≡ is_opening (said call.entry) }
     ensures real { Real (said call.entry) }
 {
     match call {

@@ -3,9 +3,9 @@
 ghost use Rattle.std.specs.Prelude.{◌≡◌, suc, ◌+◌, ◌-◌, ◌<◌, ◌≤◌, true, map, length, take, vec_len};
 ghost use Rattle.column.specs.Widths.{listed, Below};
 ghost use Rattle.column.specs.Interface.{Written};
-ghost use Rattle.document.specs.Columns.{short, longs, lengthBytes, joined};
+ghost use Rattle.document.specs.Columns.{short, longs, length_bytes, joined};
 ghost use Rattle.ser.specs.Moves.{sheets, node};
-ghost use Rattle.ser.specs.Out.{inChain, values_of, pieces_of, nodeImage, ordered, image_of, Pieces, NodeSafe, OutSafe, ending, Put, Wrote};
+ghost use Rattle.ser.specs.Out.{in_chain, values_of, pieces_of, node_image, ordered, image_of, Pieces, NodeSafe, OutSafe, ending, Put, Wrote};
 
 use crate::records::{Cell, Node};
 use crate::store::Tables;
@@ -45,8 +45,8 @@ fn sift(lengths: &mut [u64]) -> usize
 
 /// The values of a chain of cells, from the front of the scratch on; answers how many there are.
 fn gather(cells: &[Cell], chain: Chain, scratch: &mut [u64]) -> usize
-    requires { length (inChain cells.now chain) ≤ length scratch.old }
-    ensures count { result ≡ length (inChain cells.now chain) }
+    requires { length (in_chain cells.now chain) ≤ length scratch.old }
+    ensures count { result ≡ length (in_chain cells.now chain) }
     ensures front { take result scratch.new ≡ values_of cells.now chain }
 {
     let mut n = 0;
@@ -97,7 +97,7 @@ fn write_values<C: Column>(
     output: &mut [u8],
     place: usize,
 ) -> Result<usize, Refusal>
-    requires { (listed width ≡ true) × ((Below width (values_of cells.now chain)) × (length (inChain cells.now chain) ≤ length scratch.old)) }
+    requires { (listed width ≡ true) × ((Below width (values_of cells.now chain)) × (length (in_chain cells.now chain) ≤ length scratch.old)) }
     ensures { Put place ((C.Column.meaning kind.now).image width (values_of cells.now chain)) output.old output.new result }
 {
     let n = gather(cells, chain, scratch);
@@ -113,7 +113,7 @@ fn write_short<C: Column>(
     output: &mut [u8],
     place: usize,
 ) -> Result<usize, Refusal>
-    requires { length (inChain cells.now chain) ≤ length scratch.old }
+    requires { length (in_chain cells.now chain) ≤ length scratch.old }
     ensures { Put place ((C.Column.meaning kind.now).image 8 (map short (values_of cells.now chain))) output.old output.new result }
 {
     let n = gather(cells, chain, scratch);
@@ -130,7 +130,7 @@ fn write_long<C: Column>(
     output: &mut [u8],
     place: usize,
 ) -> Result<usize, Refusal>
-    requires { (Below 64 (values_of cells.now chain)) × (length (inChain cells.now chain) ≤ length scratch.old) }
+    requires { (Below 64 (values_of cells.now chain)) × (length (in_chain cells.now chain) ≤ length scratch.old) }
     ensures { Put place ((C.Column.meaning kind.now).image 64 (longs (values_of cells.now chain))) output.old output.new result }
 {
     let n = gather(cells, chain, scratch);
@@ -147,8 +147,8 @@ fn write_lengths<C: Column>(
     output: &mut [u8],
     place: usize,
 ) -> Result<usize, Refusal>
-    requires { (Below 64 (values_of cells.now chain)) × (length (inChain cells.now chain) ≤ length scratch.old) }
-    ensures { Put place (lengthBytes (C.Column.meaning kind.now) (values_of cells.now chain)) output.old output.new result }
+    requires { (Below 64 (values_of cells.now chain)) × (length (in_chain cells.now chain) ≤ length scratch.old) }
+    ensures { Put place (length_bytes (C.Column.meaning kind.now) (values_of cells.now chain)) output.old output.new result }
 {
     let end = write_short(kind, cells, chain, scratch, output, place)?;
     write_long(kind, cells, chain, scratch, output, end)
@@ -162,7 +162,7 @@ fn write_texts(
     output: &mut [u8],
     place: usize,
 ) -> Result<usize, Refusal>
-    requires { (Pieces cells.now text.now (inChain cells.now chain)) × (place ≤ length output.old) }
+    requires { (Pieces cells.now text.now (in_chain cells.now chain)) × (place ≤ length output.old) }
     ensures { Put place (joined (pieces_of cells.now text.now chain)) output.old output.new result }
 {
     let mut end = place;
@@ -185,7 +185,7 @@ fn write_node<C: Column>(
     place: usize,
 ) -> Result<usize, Refusal>
     requires { (NodeSafe cells.now text.now (length scratch.old) node) × (place ≤ length output.old) }
-    ensures { Put place (nodeImage (C.Column.meaning kind.now) cells.now text.now node) output.old output.new result }
+    ensures { Put place (node_image (C.Column.meaning kind.now) cells.now text.now node) output.old output.new result }
 {
     match node.mark {
         Mark::Scalar(k) => write_values(kind, k.width(), cells, node.cells, scratch, output, place),

@@ -1,7 +1,7 @@
 //! The records of the writer's tables.
 
 ghost use Rattle.std.specs.Prelude.{◌≡◌};
-ghost use Rattle.ser.specs.Moves.{blankNode, blankCell};
+ghost use Rattle.ser.specs.Moves.{blank_node, blank_cell};
 ghost use Rattle.std.proofs.Common.{rules};
 
 use chain::{Chain, Linked};
@@ -39,7 +39,7 @@ pub struct Cell {
 impl Node {
     /// A record to make a table of; what it holds counts for nothing.
     pub fn blank() -> Node
-        ensures { result ≡ blankNode }
+        ensures { result ≡ blank_node }
     {
         Node {
             mark: Mark::Unmarked,
@@ -56,7 +56,7 @@ impl Node {
 impl Cell {
     /// A record to make a table of; what it holds counts for nothing.
     pub fn blank() -> Cell
-        ensures { result ≡ blankCell }
+        ensures { result ≡ blank_cell }
     {
         Cell {
             value: 0,
@@ -67,9 +67,9 @@ impl Cell {
 }
 
 impl Linked for Node {
-    ghost nextOf = { λ n. n.next };
+    ghost next_of = { λ n. n.next };
 
-    ghost withNext = { λ n k. record { mark = n.mark; sum = n.sum; index = n.index; next = k; children = n.children; cells = n.cells; order = n.order } };
+    ghost with_next = { λ n k. record { mark = n.mark; sum = n.sum; index = n.index; next = k; children = n.children; cells = n.cells; order = n.order } };
 
     ghost linked = { Prim.search rules };
 
@@ -83,7 +83,7 @@ impl Linked for Node {
 }
 
 impl Indexed for Node {
-    ghost indexOf = { λ n. n.index };
+    ghost index_of = { λ n. n.index };
 
     fn index(&self) -> u32 {
         self.index
@@ -91,9 +91,9 @@ impl Indexed for Node {
 }
 
 impl Linked for Cell {
-    ghost nextOf = { λ c. c.next };
+    ghost next_of = { λ c. c.next };
 
-    ghost withNext = { λ c k. record { value = c.value; start = c.start; next = k } };
+    ghost with_next = { λ c k. record { value = c.value; start = c.start; next = k } };
 
     ghost linked = { Prim.search rules };
 

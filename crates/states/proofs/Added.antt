@@ -9,7 +9,7 @@ use Rattle.document.specs.Calls.{Value, Call, val, end}
 use Rattle.document.specs.Verdict.{verdict}
 use Rattle.ser.specs.declared.writer.Writer.{Writer}
 use Rattle.ser.specs.Moves.{sheets}
-use Rattle.ser.specs.Tables.{sizesOf}
+use Rattle.ser.specs.Tables.{sizes_of}
 use Rattle.ser.specs.Standing.{Stands, Told}
 use Rattle.states.specs.Adding.{Adds, Stops, Tells, TellsAll}
 
@@ -51,7 +51,7 @@ more-told {xs = xs} d ys (Err refusal) first next =
             after = s.after;
             parts = ap (λ (zs : List Call). xs ++ zs) s.parts ∙ sym (append_assoc xs s.before (s.refused ∷ s.after));
             stands = subst (Stands d.desk) (append_assoc cs xs s.before) s.stands;
-            told = subst (λ (zs : List Call). Err refusal ≡ verdict (sizesOf (sheets d.desk.tables)) zs s.refused) (append_assoc cs xs s.before) s.told;
+            told = subst (λ (zs : List Call). Err refusal ≡ verdict (sizes_of (sheets d.desk.tables)) zs s.refused) (append_assoc cs xs s.before) s.told;
           };
     }
 

@@ -12,10 +12,10 @@ use Rattle.document.specs.declared.questions.Question.TheVariants as questions
 use Rattle.document.specs.Calls.{Cell, num, str, Value, scalar, text, unit, none, some, variant, seq, map, tuple, Call, val, end}
 use Rattle.document.specs.Nodes.{Path}
 use Rattle.document.specs.Numbers.{Is}
-use Rattle.document.specs.Places.{Place, Next, nowhere, there, next, full, opens, settle, tooMany}
-use Rattle.document.specs.Reader.{Store, Reading, Look, found, lost, look, Ask, scalar?, text?, option?, variant?, seq?, map?, tuple?, asks, Reply, reply, refuse, Worth, worth, worthless, worthOf, Child, childless, child, childOf, taken, recorded, give, pick, consult, opening, rooted, tupled, standing, respond, answer}
+use Rattle.document.specs.Places.{Place, Next, nowhere, there, next, full, opens, settle, too_many}
+use Rattle.document.specs.Reader.{Store, Reading, Look, found, lost, look, Ask, scalar?, text?, option?, variant?, seq?, map?, tuple?, asks, Reply, reply, refuse, Worth, worth, worthless, worth_of, Child, childless, child, child_of, taken, recorded, give, pick, consult, opening, rooted, tupled, standing, respond, answer}
 use Rattle.de.specs.declared.reader.Reader.{Reader}
-use Rattle.de.specs.Answered.{Answers, questionOf}
+use Rattle.de.specs.Answered.{Answers, question_of}
 use Rattle.de.specs.Readers.{StandsFor, Tells}
 use Rattle.de.proofs.Answering.{Worths, worth_is}
 
@@ -49,7 +49,7 @@ chosen true h k = h
 chosen false h k = k
 
 -- the value that a cell is worth
-worth-fits : (a : Ask) (c : Cell) (v : Value) → Worths a c v → AskedFor (questionOf a) (val v)
+worth-fits : (a : Ask) (c : Cell) (v : Value) → Worths a c v → AskedFor (question_of a) (val v)
 worth-fits (scalar? k) c v e = (num c, ap val e)
 worth-fits text? c v e = (str c, ap val e)
 worth-fits option? c v e = ⊎_elim (λ n. inl (ap val n)) (λ s. inr (ap val s)) e
@@ -64,25 +64,25 @@ recorded-fits c place fs st childless h = replied c place _ h
 recorded-fits c place fs st (child p) h = chosen (st.made p) (replied c place _ h) (chosen (leb 1 st.records) (replied c place _ h) (refused refusals.Nodes))
 
 -- .. where it opens no place too many
-give-fits : (p : Path) (fs : List Place) (a : Ask) (c : Cell) (cs : List Cell) (st : Store) (w : Worth) → worthOf a c ≡ w → Fits (questionOf a) (give p fs (asks a) c cs st w)
+give-fits : (p : Path) (fs : List Place) (a : Ask) (c : Cell) (cs : List Cell) (st : Store) (w : Worth) → worth_of a c ≡ w → Fits (question_of a) (give p fs (asks a) c cs st w)
 give-fits p fs a c cs st (worth v) e =
-    chosen (tooMany (length (opens p v ++ fs))) (refused refusals.Depth)
-    (recorded-fits (val v) (st.texts p) (settle (opens p v ++ fs)) (taken p (asks a) c cs st) (childOf p v) (worth-fits a c v (worth_is a c v e)))
+    chosen (too_many (length (opens p v ++ fs))) (refused refusals.Depth)
+    (recorded-fits (val v) (st.texts p) (settle (opens p v ++ fs)) (taken p (asks a) c cs st) (child_of p v) (worth-fits a c v (worth_is a c v e)))
 give-fits p fs a c cs st (worthless r) e = refused r
 
 -- the next of a node's cells
-pick-fits : (p : Path) (fs : List Place) (a : Ask) (l : Look) → Fits (questionOf a) (pick p fs a l)
+pick-fits : (p : Path) (fs : List Place) (a : Ask) (l : Look) → Fits (question_of a) (pick p fs a l)
 pick-fits p fs a (found [] st) = refused _
-pick-fits p fs a (found (c ∷ cs) st) = give-fits p fs a c cs st (worthOf a c) refl
+pick-fits p fs a (found (c ∷ cs) st) = give-fits p fs a c cs st (worth_of a c) refl
 pick-fits p fs a (lost r) = refused r
 
 -- a question of a node
-consult-fits : (col : Meaning) (st : Store) (p : Path) (fs : List Place) (a : Ask) → Fits (questionOf a) (rooted st (consult col st p fs a))
+consult-fits : (col : Meaning) (st : Store) (p : Path) (fs : List Place) (a : Ask) → Fits (question_of a) (rooted st (consult col st p fs a))
 consult-fits col st p fs a = chosen st.rooted (pick-fits p fs a (look col p (asks a) st)) (refused _)
 
 -- .. that opens a place
 opening-fits : {q : Question} (fs : List Place) (r : Reply) → Fits q r → Fits q (opening fs r)
-opening-fits fs r h = chosen (tooMany (suc (length fs))) (refused refusals.Depth) h
+opening-fits fs r h = chosen (too_many (suc (length fs))) (refused refusals.Depth) h
 
 -- a tuple
 tupled-fits : (col : Meaning) (st : Store) (p : Path) (fs : List Place) (n : ℕ) → Fits (questions.Tuple n) (rooted st (tupled col st p fs n))

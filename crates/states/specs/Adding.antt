@@ -6,7 +6,7 @@ use Rattle.document.specs.Verdict.{verdict}
 use Rattle.ser.specs.declared.desk.Desk.{Desk}
 use Rattle.ser.specs.declared.writer.Writer.{Writer}
 use Rattle.ser.specs.Moves.{sheets}
-use Rattle.ser.specs.Tables.{sizesOf}
+use Rattle.ser.specs.Tables.{sizes_of}
 use Rattle.ser.specs.Standing.{Stands}
 
 -- the new writer stands for these calls after those that the old one stood for
@@ -20,7 +20,7 @@ pub record Stopped (new : Desk) (cs more : List Call) (r : Refusal) : Type 0 whe
   pub after : List Call
   pub parts : more ≡ before ++ refused ∷ after
   pub stands : Stands new (cs ++ before)
-  pub told : Err r ≡ verdict (sizesOf (sheets new.tables)) (cs ++ before) refused
+  pub told : Err r ≡ verdict (sizes_of (sheets new.tables)) (cs ++ before) refused
 
 -- .. whatever the old writer stood for
 pub record Stops (old new : Writer) (more : List Call) (r : Refusal) : Type 0 where

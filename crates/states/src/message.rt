@@ -3,10 +3,10 @@
 ghost use Rattle.std.specs.Prelude.{◌≡◌, List, MatchResult};
 ghost use Rattle.document.specs.Calls.{Call};
 ghost use Rattle.document.specs.Bytes.{bytes};
-ghost use Rattle.document.specs.WriteOut.{writeOut};
+ghost use Rattle.document.specs.WriteOut.{write_out};
 ghost use Rattle.ser.specs.Standing.{Stands};
 ghost use Rattle.states.specs.declared.message.MessageError.TheVariants.{Memory, Refused};
-ghost use Rattle.states.specs.Documents.{stateCalls};
+ghost use Rattle.states.specs.Documents.{state_calls};
 ghost use Rattle.states.specs.Sending.{Fails, SendFails};
 
 use crate::shown::Words;
@@ -72,7 +72,7 @@ pub(crate) fn message<C: Column>(
     closed: &Closed,
     kind: &C,
 ) -> Result<Vec<u8>, MessageError>
-    ensures { (cs : List Call) → Stands closed.now.desk cs → MatchResult result (λ message. message.items ≡ bytes (C.Column.meaning kind.now) cs) (Fails (writeOut (C.Column.meaning kind.now) cs CELLS ROOM)) }
+    ensures { (cs : List Call) → Stands closed.now.desk cs → MatchResult result (λ message. message.items ≡ bytes (C.Column.meaning kind.now) cs) (Fails (write_out (C.Column.meaning kind.now) cs CELLS ROOM)) }
 {
     let mut scratch = vec![in heap; 0u64; CELLS]?;
     let mut output = vec![in heap; 0u8; ROOM]?;
@@ -88,7 +88,7 @@ pub(crate) fn send<C: Column>(
     state: TableState<'_>,
     kind: &C,
 ) -> (Result<Vec<u8>, MessageError>, Parts)
-    ensures { MatchResult result.0 (λ message. message.items ≡ bytes (C.Column.meaning kind.now) (stateCalls state.entry)) (SendFails (writeOut (C.Column.meaning kind.now) (stateCalls state.entry) CELLS ROOM) (stateCalls state.entry)) }
+    ensures { MatchResult result.0 (λ message. message.items ≡ bytes (C.Column.meaning kind.now) (state_calls state.entry)) (SendFails (write_out (C.Column.meaning kind.now) (state_calls state.entry) CELLS ROOM) (state_calls state.entry)) }
 {
     let (closed, answer) = told(tables, state);
     let bytes = match answer {

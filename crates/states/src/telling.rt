@@ -1,6 +1,6 @@
 //! A state, as the calls that tell it to a writer. The first refusal ends the telling.
 
-ghost use Rattle.states.specs.Documents.{grantCalls, cardsCalls, grantsCalls, handCalls, seatCalls, stateCalls};
+ghost use Rattle.states.specs.Documents.{grant_calls, cards_calls, grants_calls, hand_calls, seat_calls, state_calls};
 ghost use Rattle.states.specs.Adding.{Tells, TellsAll};
 
 use crate::state::{Grant, Seat, TableState};
@@ -13,7 +13,7 @@ use ser::writer::{Closed, Writer};
 impl Grant {
     /// A card, and the seat whose hand it opens, if any.
     pub(crate) fn tell(self, writer: &mut Writer) -> Result<(), Refusal>
-        ensures { Tells writer.old writer.new (grantCalls self) result }
+        ensures { Tells writer.old writer.new (grant_calls self) result }
     {
         writer.call(Call::U8(self.card))?;
         match self.seat {
@@ -28,7 +28,7 @@ impl Grant {
 
 /// The cards of a hand.
 pub(crate) fn tell_cards(cards: &[u8], writer: &mut Writer) -> Result<(), Refusal>
-    ensures { Tells writer.old writer.new (cardsCalls cards.now) result }
+    ensures { Tells writer.old writer.new (cards_calls cards.now) result }
 {
     writer.call(Call::Seq(cards.len() as u64))?;
     for card in cards {
@@ -39,7 +39,7 @@ pub(crate) fn tell_cards(cards: &[u8], writer: &mut Writer) -> Result<(), Refusa
 
 /// What the cards grant.
 pub(crate) fn tell_grants(grants: &[Grant], writer: &mut Writer) -> Result<(), Refusal>
-    ensures { Tells writer.old writer.new (grantsCalls grants.now) result }
+    ensures { Tells writer.old writer.new (grants_calls grants.now) result }
 {
     writer.call(Call::Map(grants.len() as u64))?;
     for grant in grants {
@@ -51,7 +51,7 @@ pub(crate) fn tell_grants(grants: &[Grant], writer: &mut Writer) -> Result<(), R
 impl Seat<'_> {
     /// The beginning of a seat: its name and its cards.
     pub(crate) fn tell_hand(&self, writer: &mut Writer) -> Result<(), Refusal>
-        ensures { Tells writer.old writer.new (handCalls self.now) result }
+        ensures { Tells writer.old writer.new (hand_calls self.now) result }
     {
         writer.call(Call::Tuple(3))?;
         writer.call(Call::Text(self.name.as_bytes()))?;
@@ -60,7 +60,7 @@ impl Seat<'_> {
 
     /// A seat.
     pub(crate) fn tell(&self, writer: &mut Writer) -> Result<(), Refusal>
-        ensures { Tells writer.old writer.new (seatCalls self.now) result }
+        ensures { Tells writer.old writer.new (seat_calls self.now) result }
     {
         self.tell_hand(writer)?;
         tell_grants(self.grants, writer)?;
@@ -71,7 +71,7 @@ impl Seat<'_> {
 impl TableState<'_> {
     /// All seats.
     pub(crate) fn tell(&self, writer: &mut Writer) -> Result<(), Refusal>
-        ensures { Tells writer.old writer.new (stateCalls self.now) result }
+        ensures { Tells writer.old writer.new (state_calls self.now) result }
     {
         writer.call(Call::Seq(self.seats.len() as u64))?;
         for seat in self.seats {
@@ -83,7 +83,7 @@ impl TableState<'_> {
 
 /// A closed writer over the tables that was told a state, and what it answered.
 pub(crate) fn told(tables: Parts, state: TableState<'_>) -> (Closed, Result<(), Refusal>)
-    ensures { TellsAll result.0.desk (stateCalls state.entry) result.1 }
+    ensures { TellsAll result.0.desk (state_calls state.entry) result.1 }
 {
     let mut writer = begin(tables);
     let answer = state.tell(&mut writer);

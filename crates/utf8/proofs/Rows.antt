@@ -6,7 +6,7 @@ use Rattle.std.proofs.lemmas.List.{take-append-drop, drop_at, length-append}
 use Rattle.std.proofs.ByRecursion.{all-has, has_get_or, Decides-by_and}
 use Rattle.std.proofs.lemmas.Bool.Decides.{Decides-by_or}
 use Rattle.utf8.specs.Table.{Range, Row, table, In, Fits, WellFormed, empty, more}
-use Rattle.utf8.specs.Passes.{in_range, begins, someRow, passesIn, passes}
+use Rattle.utf8.specs.Passes.{in_range, begins, some_row, passes_in, passes}
 
 -- one is well-formed exactly when the other is
 abbrev pub Alike : List ℕ → List ℕ → Type 0
@@ -106,30 +106,30 @@ no_row _ l a empty = absurd (omega arith)
 no_row _ l a (more row bytes rest k f w) = false≢true (sym (all-has (λ r. begins r (bytes ++ rest) ≡ false) table row a k) ∙ fits-begins row bytes rest f)
 
 -- a test of some row, and the row
-some-has : (test : Row → Bool) (rows : List Row) → someRow test rows ≡ true → (row : Row) × (Has rows row × (test row ≡ true))
+some-has : (test : Row → Bool) (rows : List Row) → some_row test rows ≡ true → (row : Row) × (Has rows row × (test row ≡ true))
 some-has test rows e =
-    let p = (Decides-by_or test (λ r. test r ≡ true) (someRow test) (λ r. (λ t. t, λ t. t)) refl (λ _ _. refl) rows).0 e in
+    let p = (Decides-by_or test (λ r. test r ≡ true) (some_row test) (λ r. (λ t. t, λ t. t)) refl (λ _ _. refl) rows).0 e in
     (get_or rows p.0 [], (has_get_or rows p.0 [] p.1, p.2 []))
 
-has_some : (test : Row → Bool) (rows : List Row) (row : Row) → Has rows row → test row ≡ true → someRow test rows ≡ true
+has_some : (test : Row → Bool) (rows : List Row) (row : Row) → Has rows row → test row ≡ true → some_row test rows ≡ true
 has_some test rows row h e =
-    (Decides-by_or test (λ r. test r ≡ true) (someRow test) (λ r. (λ t. t, λ t. t)) refl (λ _ _. refl) rows).1
+    (Decides-by_or test (λ r. test r ≡ true) (some_row test) (λ r. (λ t. t, λ t. t)) refl (λ _ _. refl) rows).1
     (h.0, h.1, λ d. ap test (h.2 d) ∙ e)
 
 -- what passes is well-formed
-sound : (s : List ℕ) (n : ℕ) → passesIn s n ≡ true → WellFormed s
-unfolding passesIn
+sound : (s : List ℕ) (n : ℕ) → passes_in s n ≡ true → WellFormed s
+unfolding passes_in
 sound [] n e = empty
 sound (b ∷ bs) zero e = absurd (false≢true e)
 sound (b ∷ bs) (suc n) e =
-    let p = some-has (λ row. begins row (b ∷ bs) && passesIn (drop (length row) (b ∷ bs)) n) table e in
+    let p = some-has (λ row. begins row (b ∷ bs) && passes_in (drop (length row) (b ∷ bs)) n) table e in
     let row = p.0 in
-    let q = and_parts (begins row (b ∷ bs)) (passesIn (drop (length row) (b ∷ bs)) n) p.1.1 in
+    let q = and_parts (begins row (b ∷ bs)) (passes_in (drop (length row) (b ∷ bs)) n) p.1.1 in
     with_row row (b ∷ bs) p.1.0 q.0 (sound (drop (length row) (b ∷ bs)) n q.1)
 
 -- and what is well-formed passes
-complete : {s : List ℕ} → WellFormed s → (n : ℕ) → length s ≤ n → passesIn s n ≡ true
-unfolding passesIn
+complete : {s : List ℕ} → WellFormed s → (n : ℕ) → length s ≤ n → passes_in s n ≡ true
+unfolding passes_in
 complete empty n l = refl
 complete (more row [] rest h f w) n l = absurd (omega (arith, row-some row h, length-fits row [] f))
 complete (more row (b ∷ bs) rest h f w) zero l = absurd (omega arith)
@@ -137,8 +137,8 @@ complete (more row (b ∷ bs) rest h f w) (suc n) l =
     let t = (b ∷ bs) ++ rest in
     let same = drop_at (b ∷ bs) rest (length row) (length-fits row (b ∷ bs) f) in
     let short : length rest ≤ n = omega (arith, length-append bs rest) in
-    has_some (λ r. begins r t && passesIn (drop (length r) t) n) table row h
-    (and_from (begins row t) (passesIn (drop (length row) t) n) (fits-begins row (b ∷ bs) rest f) (rw same (complete w n short)))
+    has_some (λ r. begins r t && passes_in (drop (length r) t) n) table row h
+    (and_from (begins row t) (passes_in (drop (length row) t) n) (fits-begins row (b ∷ bs) rest f) (rw same (complete w n short)))
 
 -- the test that computes decides what is well-formed
 pub decides-passes : (s : List ℕ) → Decides (passes s) (WellFormed s)

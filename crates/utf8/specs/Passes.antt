@@ -13,16 +13,16 @@ begins (range ∷ ranges) [] = false
 begins (range ∷ ranges) (b ∷ bs) = in_range range b && begins ranges bs
 
 -- whether the test holds of one of the rows
-abbrev pub someRow : (Row → Bool) → List Row → Bool
-someRow test [] = false
-someRow test (row ∷ rows) = test row || someRow test rows
+abbrev pub some_row : (Row → Bool) → List Row → Bool
+some_row test [] = false
+some_row test (row ∷ rows) = test row || some_row test rows
 
 -- whether the text is well-formed in at most n sequences
-unfoldable pub passesIn : List ℕ → ℕ → Bool
-passesIn [] n = true
-passesIn (b ∷ bs) zero = false
-passesIn (b ∷ bs) (suc n) = someRow (λ row. begins row (b ∷ bs) && passesIn (drop (length row) (b ∷ bs)) n) table
+unfoldable pub passes_in : List ℕ → ℕ → Bool
+passes_in [] n = true
+passes_in (b ∷ bs) zero = false
+passes_in (b ∷ bs) (suc n) = some_row (λ row. begins row (b ∷ bs) && passes_in (drop (length row) (b ∷ bs)) n) table
 
 -- whether the text is well-formed: it has no more sequences than bytes
 unfoldable pub passes : List ℕ → Bool
-passes text = passesIn text (length text)
+passes text = passes_in text (length text)

@@ -13,46 +13,46 @@ use Rattle.chain.proofs.Links.{runs_append, runs-beside}
 use Rattle.chain.proofs.append.Goals as goal
 
 -- an append that is within the table, and what it leaves there
-module _ {R : Type 0} (nextOf : R → ℕ) (withNext : R → ℕ → R) (linked : (r : R) (n : ℕ) → nextOf (withNext r n) ≡ n)
+module _ {R : Type 0} (next_of : R → ℕ) (with_next : R → ℕ → R) (linked : (r : R) (n : ℕ) → next_of (with_next r n) ≡ n)
     (table : List R) (chain : Chain) (place : ℕ) (new : R) (p : 0 < place) (q : place < length table) (l : chain.last < length table)
     (head : ℕ) (first : cond (eqb chain.last 0) place chain.first ≡ head)
-    (exit : List R) (ex : exit ≡ appended withNext table chain.last place new) where
+    (exit : List R) (ex : exit ≡ appended with_next table chain.last place new) where
   inside : within (length table) chain place ≡ true
   inside = within-from (length table) chain place p q l
 
   answers : ◌≡◌ {A = Result Chain Fault} (Ok (record { first = head; last = place })) (cond (within (length table) chain place) (Ok (longer chain place)) (Err Outside))
   answers = sym (cond-true _ _ _ inside ∙ ap {B = Result Chain Fault} (λ (k : ℕ). Ok (record { first = k; last = place })) first)
 
-  leaves : exit ≡ cond (within (length table) chain place) (appended withNext table chain.last place new) table
+  leaves : exit ≡ cond (within (length table) chain place) (appended with_next table chain.last place new) table
   leaves = ex ∙ sym (cond-true _ _ _ inside)
 
-  nexts : map nextOf exit ≡ appended (λ _ n. n) (map nextOf table) chain.last place 0
-  nexts = ap (map nextOf) ex ∙ nexts-appended withNext table chain.last place new nextOf linked
+  nexts : map next_of exit ≡ appended (λ _ n. n) (map next_of table) chain.last place 0
+  nexts = ap (map next_of) ex ∙ nexts-appended with_next table chain.last place new next_of linked
 
-  lengthens : (is : List ℕ) → Runs (map nextOf table) chain.first is → last_of is ≡ chain.last → AllByRecursion (λ i. i < place) is → Runs (map nextOf exit) head (is ++ place ∷ [])
+  lengthens : (is : List ℕ) → Runs (map next_of table) chain.first is → last_of is ≡ chain.last → AllByRecursion (λ i. i < place) is → Runs (map next_of exit) head (is ++ place ∷ [])
   lengthens is h e below =
       let P : List ℕ → Type 0 = λ ms. Runs ms head (is ++ place ∷ []) in
-      let Q : ℕ → Type 0 = λ k. Runs (appended (λ _ n. n) (map nextOf table) chain.last place 0) k (is ++ place ∷ []) in
-      subst P (sym nexts) (subst Q first (runs_append (map nextOf table) chain.first chain.last place is p (simp length-map q) h e below))
+      let Q : ℕ → Type 0 = λ k. Runs (appended (λ _ n. n) (map next_of table) chain.last place 0) k (is ++ place ∷ []) in
+      subst P (sym nexts) (subst Q first (runs_append (map next_of table) chain.first chain.last place is p (simp length-map q) h e below))
 
-  spares : (start : ℕ) (is : List ℕ) → Runs (map nextOf table) start is → Out chain.last is → Out place is → Runs (map nextOf exit) start is
+  spares : (start : ℕ) (is : List ℕ) → Runs (map next_of table) start is → Out chain.last is → Out place is → Runs (map next_of exit) start is
   spares start is h o u =
       let P : List ℕ → Type 0 = λ ms. Runs ms start is in
-      subst P (sym nexts) (runs-beside (map nextOf table) chain.last place start is h o u)
+      subst P (sym nexts) (runs-beside (map next_of table) chain.last place start is h o u)
 
 -- the two writes: the new record, and the last one's link to it
-written : {R : Type 0} (withNext : R → ℕ → R) (table : List R) (last place : ℕ) (new end link d : R) → last < length table → (last ≡ 0 → ⊥)
-    → end ≡ withNext new 0 → link ≡ withNext (get_or (set table place end) last d) place → set (set table place end) last link ≡ appended withNext table last place new
-written withNext table last place new end link d l nz e f =
-    ap (set (set table place end) last) f ∙ set-adjust (λ r. withNext r place) (set table place end) last d (simp length-set l)
-    ∙ ap (λ x. adjust (λ r. withNext r place) last (set table place x)) e
-    ∙ sym (appended-after withNext table last place new nz)
+written : {R : Type 0} (with_next : R → ℕ → R) (table : List R) (last place : ℕ) (new end link d : R) → last < length table → (last ≡ 0 → ⊥)
+    → end ≡ with_next new 0 → link ≡ with_next (get_or (set table place end) last d) place → set (set table place end) last link ≡ appended with_next table last place new
+written with_next table last place new end link d l nz e f =
+    ap (set (set table place end) last) f ∙ set-adjust (λ r. with_next r place) (set table place end) last d (simp length-set l)
+    ∙ ap (λ x. adjust (λ r. with_next r place) last (set table place x)) e
+    ∙ sym (appended-after with_next table last place new nz)
 
 -- the chain had no record
 pub returns-then-chain-eq0 : goal.returns-then-chain-eq0
 returns-then-chain-eq0 g c =
-    let f = g.R.Linked.nextOf in
-    let w = g.R.Linked.withNext in
+    let f = g.R.Linked.next_of in
+    let w = g.R.Linked.with_next in
     let law = g.met.R.Linked.linked in
     let t = c.args.table.now in
     let chain = c.args.chain in
@@ -74,8 +74,8 @@ returns-then-chain-eq0 g c =
 -- the chain had a last record
 pub returns : goal.returns
 returns g c =
-    let f = g.R.Linked.nextOf in
-    let w = g.R.Linked.withNext in
+    let f = g.R.Linked.next_of in
+    let w = g.R.Linked.with_next in
     let law = g.met.R.Linked.linked in
     let t = c.args.table.now in
     let chain = c.args.chain in

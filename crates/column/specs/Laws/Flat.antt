@@ -7,7 +7,7 @@ use Rattle.column.specs.Digits.{low, total}
 use Rattle.std.proofs.lemmas.Bool.{lt-ltb, le-leb, ltb-true, leb-true}
 use Rattle.column.specs.Parsed.{got, short, bad}
 use Rattle.column.specs.Coded.{Coding, Fitting}
-use Rattle.column.specs.Flat.{size, flatOne}
+use Rattle.column.specs.Flat.{size, flat_one}
 use Rattle.column.specs.Laws.Listed.{at_listed}
 
 -- ---- digits
@@ -30,7 +30,7 @@ total-low (suc k) v h = omega (arith, total-low k (v / 256) (omega arith))
 wide : (w : ℕ) → listed w ≡ true → 2 ^ w ≤ 256 ^ size w
 wide = at_listed (λ w. 2 ^ w ≤ 256 ^ size w) (omega arith) (omega arith) (omega arith) (omega arith) (omega arith)
 
-reads : (w v : ℕ) (rest : List ℕ) → listed w ≡ true → v < 2 ^ w → flatOne w (low 256 (size w) v ++ rest) ≡ got v (length (low 256 (size w) v))
+reads : (w v : ℕ) (rest : List ℕ) → listed w ≡ true → v < 2 ^ w → flat_one w (low 256 (size w) v ++ rest) ≡ got v (length (low 256 (size w) v))
 reads w v rest l b =
     let long = length-low 256 (size w) v in
     let front : take (size w) (low 256 (size w) v ++ rest) ≡ low 256 (size w) v = take_at (low 256 (size w) v) rest (size w) long in
@@ -39,7 +39,7 @@ reads w v rest l b =
     let fits : ltb v (2 ^ w) ≡ true = lt-ltb v (2 ^ w) b in
     rw (there, front, same, fits, long) refl
 
-fitting : (w : ℕ) (bs : List ℕ) → Fitting w bs (flatOne w bs)
+fitting : (w : ℕ) (bs : List ℕ) → Fitting w bs (flat_one w bs)
 fitting w bs = enough (nat_le (size w) (length bs)) refl
   where
     small : (t : Bool) → nat_lt (total 256 (take (size w) bs)) (2 ^ w) ≡ t → size w ≤ length bs → Fitting w bs (cond t (got (total 256 (take (size w) bs)) (size w)) (bad 0))
@@ -50,5 +50,5 @@ fitting w bs = enough (nat_le (size w) (length bs)) refl
     enough true e = small (nat_lt (total 256 (take (size w) bs)) (2 ^ w)) refl (leb-true (size w) (length bs) e)
     enough false e = tt
 
-pub flat-coding : Coding (λ w. low 256 (size w)) flatOne
+pub flat-coding : Coding (λ w. low 256 (size w)) flat_one
 flat-coding = record { reads = reads; bytes = λ w v l b. bytes_low (size w) v; fitting = λ w bs l b. fitting w bs }

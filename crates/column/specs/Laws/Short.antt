@@ -6,7 +6,7 @@ use Rattle.column.specs.Widths.{listed, Bytes}
 use Rattle.column.specs.Parsed.{Parsed, got, short, bad, and_then}
 use Rattle.column.specs.Coded.{onto, Coding, Fitting}
 use Rattle.column.specs.Digits.{total}
-use Rattle.column.specs.Short.{Form, Fewest, groups, leb128, front, shortOne}
+use Rattle.column.specs.Short.{Form, Fewest, groups, leb128, front, short_one}
 use Rattle.column.specs.Laws.Listed.{width-most}
 
 -- ---- a value's groups
@@ -122,13 +122,13 @@ judged w bs (got form used) f =
 judged w bs (short depth) f = tt
 judged w bs (bad depth) f = tt
 
-pub short-coding : Coding (λ w. leb128) shortOne
+pub short-coding : Coding (λ w. leb128) short_one
 short-coding = record { reads = reads; bytes = λ w v l b. form-bytes (leb128 v) (leb-fewest v (small w v l b)).form; fitting = λ w bs l b. judged w bs (front 10 bs) (fronted 10 bs) }
   where
     small : (w v : ℕ) → listed w ≡ true → v < 2 ^ w → v < 2 ^ 64
     small w v l b = omega (arith, pow_mono (width-most w l))
 
-    reads : (w v : ℕ) (rest : List ℕ) → listed w ≡ true → v < 2 ^ w → shortOne w (leb128 v ++ rest) ≡ got v (length (leb128 v))
+    reads : (w v : ℕ) (rest : List ℕ) → listed w ≡ true → v < 2 ^ w → short_one w (leb128 v ++ rest) ≡ got v (length (leb128 v))
     reads w v rest l b =
         let few = leb-fewest v (small w v l b) in
         rw (front-form 10 (leb128 v) rest few.form (length-leb v), few.value, lt-ltb v (2 ^ w) b) refl

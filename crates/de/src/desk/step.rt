@@ -4,7 +4,7 @@ ghost use Rattle.std.specs.Prelude.{◌≡◌, ◌<◌, ◌≤◌, length};
 ghost use Rattle.document.specs.Reader.{Reading, answer};
 ghost use Rattle.nodes.specs.Stack.{stack, top, opening};
 ghost use Rattle.de.specs.Moves.{sheets};
-ghost use Rattle.de.specs.Steps.{onQuestion, plan, isDeep, Aims, Took};
+ghost use Rattle.de.specs.Steps.{on_question, plan, is_deep, Aims, Took};
 ghost use Rattle.de.specs.Standing.{Stands, Told};
 
 use super::Desk;
@@ -39,8 +39,8 @@ impl Desk {
     ) -> Result<Heard, Refusal>
         requires some { 0 < self.old.places.depth }
         requires depth { self.old.places.depth ≤ 32 }
-        requires aims { Aims input.now (sheets self.old.tables) (onQuestion (top self.old.places)) }
-        ensures { Took (C.Column.meaning kind.now) input.now question (isDeep self.old) self.old self.new result (plan (top self.old.places) question) }
+        requires aims { Aims input.now (sheets self.old.tables) (on_question (top self.old.places)) }
+        ensures { Took (C.Column.meaning kind.now) input.now question (is_deep self.old) self.old self.new result (plan (top self.old.places) question) }
     {
         let deep = self.places.depth == MOST_OPEN;
         let place = &mut self.places.table[self.places.depth - 1];

@@ -2,7 +2,7 @@
 
 ghost use Rattle.std.specs.Prelude.{◌≡◌, if◌then◌else◌, vec_len, nat_lt, slice_set};
 ghost use Rattle.document.specs.Reader.{Reading, begin, answer};
-ghost use Rattle.de.specs.Moves.{rootNode};
+ghost use Rattle.de.specs.Moves.{root_node};
 ghost use Rattle.de.specs.Standing.{finishing};
 ghost use Rattle.de.specs.Readers.{StandsFor, Tells, KeepsLengths};
 
@@ -27,7 +27,7 @@ impl<'a, C: Column> Reader<'a, C> {
         ensures stands { StandsFor result (begin (vec_len nodes) (vec_len slots) input.now) }
         ensures kind { result.kind.now ≡ kind.now }
         ensures input { result.input.now ≡ input.now }
-        ensures nodes { result.desk.tables.nodes.items ≡ (if nat_lt 1 (vec_len nodes) then slice_set nodes.items 1 rootNode else nodes.items) }
+        ensures nodes { result.desk.tables.nodes.items ≡ (if nat_lt 1 (vec_len nodes) then slice_set nodes.items 1 root_node else nodes.items) }
         ensures slots { result.desk.tables.slots ≡ slots }
     {
         let desk = Desk::start(nodes, slots);

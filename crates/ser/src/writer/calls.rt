@@ -3,7 +3,7 @@
 ghost use Rattle.std.specs.Prelude.{◌≡◌, List, [], if◌then◌else◌, vec_len, nat_lt, slice_set};
 ghost use Rattle.document.specs.Calls.{Call as Said};
 ghost use Rattle.document.specs.Said.{said};
-ghost use Rattle.ser.specs.Moves.{blankNode};
+ghost use Rattle.ser.specs.Moves.{blank_node};
 ghost use Rattle.ser.specs.Standing.{Stands, Told, WrittenOut};
 
 use super::{Closed, Writer};
@@ -25,7 +25,7 @@ pub struct Parts {
 
 /// A blank record for the root, if the table has one.
 fn rooted(mut nodes: Vec<Node>) -> Vec<Node>
-    ensures items { result.items ≡ (if nat_lt 1 (vec_len nodes) then slice_set nodes.items 1 blankNode else nodes.items) }
+    ensures items { result.items ≡ (if nat_lt 1 (vec_len nodes) then slice_set nodes.items 1 blank_node else nodes.items) }
     ensures length { vec_len result ≡ vec_len nodes }
 {
     if nodes.len() > 1 {
@@ -38,7 +38,7 @@ impl Writer {
     /// A writer over these tables, whose lengths are its budget. What they hold counts for nothing, and but for the root's record it stays.
     pub fn new(nodes: Vec<Node>, cells: Vec<Cell>, text: Vec<u8>) -> Writer
         ensures stands { Stands result.desk [] }
-        ensures nodes { result.desk.tables.nodes.items ≡ (if nat_lt 1 (vec_len nodes) then slice_set nodes.items 1 blankNode else nodes.items) }
+        ensures nodes { result.desk.tables.nodes.items ≡ (if nat_lt 1 (vec_len nodes) then slice_set nodes.items 1 blank_node else nodes.items) }
         ensures cells { result.desk.tables.cells ≡ cells }
         ensures text { result.desk.tables.text ≡ text }
     {

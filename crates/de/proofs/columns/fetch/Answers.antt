@@ -1,9 +1,9 @@
 use Rattle.std.proofs.Common.{◌≡◌, ℕ, sym, refl, ap, ◌∙◌, ⊎_elim}
 use Rattle.document.specs.Calls.{SCALAR, SEQ, MAP, ENUM, number, letters}
-use Rattle.document.specs.Fetch.{columnsOf, fetch}
+use Rattle.document.specs.Fetch.{columns_of, fetch}
 use Rattle.nodes.specs.declared.marks.Mark.{Mark}
 use Rattle.nodes.specs.declared.marks.Mark.TheVariants as marks
-use Rattle.de.proofs.Cells.{kindOf, of_mark, as_cells, numbers-stored, summed, texts-stored, of_scalar, blank_read}
+use Rattle.de.proofs.Cells.{kind_of, of_mark, as_cells, numbers-stored, summed, texts-stored, of_scalar, blank_read}
 use Rattle.de.proofs.columns.fetch.Goals as goal
 
 -- a node of scalars has a column of their width
@@ -37,6 +37,6 @@ returns-in-Text-clause-answer g c = of_mark _ _ marks.Text c.in-Text.is (as_cell
 -- the others have no column
 pub returns-in-Unmarked-clause-answer : goal.returns-in-Unmarked-clause-answer
 returns-in-Unmarked-clause-answer g c = λ K e.
-    let columns : Mark → ℕ = λ m. columnsOf (kindOf m) in
+    let columns : Mark → ℕ = λ m. columns_of (kind_of m) in
     let none : columns c.args.mark ≡ 0 = ⊎_elim (ap columns) (⊎_elim (ap columns) (λ t. ap columns t.1)) c.in-Unmarked.is in
-    blank_read K (of_mark (λ J. columnsOf J ≡ 0) c.args.mark c.args.mark refl none K e) _ _ _ _ _ _ _ c.requires.within
+    blank_read K (of_mark (λ J. columns_of J ≡ 0) c.args.mark c.args.mark refl none K e) _ _ _ _ _ _ _ c.requires.within

@@ -9,4 +9,4 @@ abbrev pub invariant-loop-k : goal.invariant-loop-k
 invariant-loop-k g l =
     (goal.iterator-loop-k g).can_next l.k-iterator × (goal.iterator-loop-k g).is_finite l.k-iterator
     × (table_of l.k-iterator ≡ l.table)
-    × (seek (map g.R.Indexed.indexOf l.table) l.index (course (map g.R.Linked.nextOf l.table) (place_of l.k-iterator)) ≡ seek (map g.R.Indexed.indexOf l.table) l.index (course (map g.R.Linked.nextOf l.table) l.fn.children.first))
+    × (seek (map g.R.Indexed.index_of l.table) l.index (course (map g.R.Linked.next_of l.table) (place_of l.k-iterator)) ≡ seek (map g.R.Indexed.index_of l.table) l.index (course (map g.R.Linked.next_of l.table) l.fn.children.first))

@@ -1,7 +1,7 @@
 use Rattle.std.proofs.Common.{[], subst}
 use Rattle.document.specs.Verdict.{Accepted}
 use Rattle.ser.specs.Standing.{WrittenOut}
-use Rattle.replay.specs.Given.{calls_of, kept, sizesFor}
+use Rattle.replay.specs.Given.{calls_of, kept, sizes_for}
 use Rattle.replay.proofs.Trips.{told_apart}
 use Rattle.replay.proofs.compare.same_bytes.Goals as goal
 
@@ -9,7 +9,7 @@ use Rattle.replay.proofs.compare.same_bytes.Goals as goal
 pub returns-clause-told_apart : goal.returns-clause-told_apart
 returns-clause-told_apart g c =
     let col = g.C.Column.meaning c.args.kind.now in
-    let sizes = sizesFor c.args.tables in
+    let sizes = sizes_for c.args.tables in
     let one = c.write_steps-first in
     let other = c.write_steps-second in
     let ds = calls_of c.args.other.now in

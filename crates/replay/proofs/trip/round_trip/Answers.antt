@@ -1,7 +1,7 @@
 use Rattle.std.proofs.Common.{[], Ok, Some, take, vec_len, sym, refl, ap, ◌∙◌, subst}
 use Rattle.document.specs.Reader.{begin}
 use Rattle.ser.specs.Standing.{WrittenOut}
-use Rattle.replay.specs.Given.{calls_of, kept, sizesFor}
+use Rattle.replay.specs.Given.{calls_of, kept, sizes_for}
 use Rattle.replay.specs.Listening.{askings, Listens}
 use Rattle.replay.specs.Trips.{called}
 use Rattle.replay.proofs.Trips.{kept_called, comes_back}
@@ -11,7 +11,7 @@ use Rattle.replay.proofs.trip.round_trip.Goals as goal
 pub returns-in-Ok-clause-comes_back : goal.returns-in-Ok-clause-comes_back
 returns-in-Ok-clause-comes_back g c =
     let col = g.C.Column.meaning c.args.kind.now in
-    let sizes = sizesFor c.args.writer in
+    let sizes = sizes_for c.args.writer in
     let wrote = c.write_steps-answer.ensures in
     let new = c.write_steps-answer.new in
     let cs = kept sizes [] (calls_of c.args.steps.now) in

@@ -1,7 +1,7 @@
 use Rattle.std.proofs.Common.{[], sym, ap, ◌∙◌, subst}
 use Rattle.document.specs.Verdict.{Accepted}
 use Rattle.ser.specs.Standing.{Stands}
-use Rattle.replay.specs.Given.{calls_of, kept, marked, deskOf, sizesFor}
+use Rattle.replay.specs.Given.{calls_of, kept, marked, desk_of, sizes_for}
 use Rattle.replay.proofs.Giving.{new-sizes, back-sizes}
 use Rattle.replay.proofs.write.write_steps.Goals as goal
 
@@ -10,12 +10,12 @@ returns g c =
     let t = c.args.tables in
     let begun = c.new-writer.ensures in
     let sizes = new-sizes c.new-writer.result t begun.nodes begun.cells begun.text in
-    let st = subst (λ s. Stands (deskOf c.give.new.writer) (kept s [] (calls_of c.args.steps.now))) sizes (c.give.ensures.stands [] begun.stands) in
+    let st = subst (λ s. Stands (desk_of c.give.new.writer) (kept s [] (calls_of c.args.steps.now))) sizes (c.give.ensures.stands [] begun.stands) in
     let after = c.give.ensures.sizes [] begun.stands ∙ sizes in
-    let closed = subst (λ d. Stands d (kept (sizesFor t) [] (calls_of c.args.steps.now))) (sym c.close-closed.ensures) st in
+    let closed = subst (λ d. Stands d (kept (sizes_for t) [] (calls_of c.args.steps.now))) (sym c.close-closed.ensures) st in
     record {
       steps = c.give.ensures.steps [] begun.stands ∙ ap (λ s. marked s [] c.args.steps.now) sizes;
-      accepted = subst (λ s. Accepted s (kept (sizesFor t) [] (calls_of c.args.steps.now))) after st.accepted;
-      written = c.write_out-answer.ensures (kept (sizesFor t) [] (calls_of c.args.steps.now)) closed;
+      accepted = subst (λ s. Accepted s (kept (sizes_for t) [] (calls_of c.args.steps.now))) after st.accepted;
+      written = c.write_out-answer.ensures (kept (sizes_for t) [] (calls_of c.args.steps.now)) closed;
       tables = back-sizes c.give.new.writer c.close-closed.result.desk t c.into_tables.result c.close-closed.ensures c.into_tables.ensures.nodes c.into_tables.ensures.cells c.into_tables.ensures.text after;
     }

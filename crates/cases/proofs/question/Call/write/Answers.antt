@@ -1,11 +1,11 @@
 use Rattle.std.proofs.Common.{◌≡◌, ℕ, List, length, take, vec_items, vec_len, sym, ap, ◌∙◌, take_at}
 use Rattle.column.specs.Interface.{writing, overlaid}
-use Rattle.cases.specs.Kinds.{meaningOf}
+use Rattle.cases.specs.Kinds.{meaning_of}
 use Rattle.cases.proofs.question.Call.write.Goals as goal
 
 pub returns-in-Ok : goal.returns-in-Ok
 returns-in-Ok c =
-    let kind = meaningOf c.args.self.kind in
+    let kind = meaning_of c.args.self.kind in
     let w = c.args.self.width in
     let asked = λ (n : ℕ). writing kind c.args.self.layer w c.args.values.now n c.args.place in
     let size : length c.deref_mut.result.now ≡ vec_len c.args.output = c.deref_mut.ensures.len in
@@ -17,7 +17,7 @@ returns-in-Ok c =
 
 pub returns-in-Err : goal.returns-in-Err
 returns-in-Err c =
-    let kind = meaningOf c.args.self.kind in
+    let kind = meaning_of c.args.self.kind in
     let w = c.args.self.width in
     let asked = λ (n : ℕ). writing kind c.args.self.layer w c.args.values.now n c.args.place in
     let size : length c.deref_mut.result.now ≡ vec_len c.args.output = c.deref_mut.ensures.len in

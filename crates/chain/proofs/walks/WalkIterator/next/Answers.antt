@@ -10,7 +10,7 @@ use Rattle.std.proofs.iter.Next.{firm}
 pub returns-then-at-eq0 : goal.returns-then-at-eq0
 returns-then-at-eq0 g c =
     let s = c.args.self.now in
-    let ns = map g.R.Linked.nextOf s.table.now in
+    let ns = map g.R.Linked.next_of s.table.now in
     let none : course ns s.at ≡ [] =
     elim c.then-at-eq0.branch [
       | then-at-eq0-via-then-at-eq0 w ↦ course-end ns s.at w.if-at-eq0.true
@@ -31,5 +31,5 @@ returns g c =
     ] in
     let p : 0 < s.at = omega arith in
     let q : s.at < length s.table.now = omega arith in
-    let e = seen g.R.Linked.nextOf s.table.now s.at next c.if-next-at.self c.index-self-at.result p q c.next-next.ensures to in
+    let e = seen g.R.Linked.next_of s.table.now s.at next c.if-next-at.self c.index-self-at.result p q c.next-next.ensures to in
     record { steps = (refl {a = s.table.now}, (e, p, q)); goes = firm ((tt, tt, omega (arith, ap length e))) (λ h. search rules) }

@@ -2,13 +2,13 @@ use Rattle.std.proofs.Common.{rules, ◌≡◌, ◌<◌, ◌^◌, true, false, �
 use Rattle.document.specs.declared.refusals.Refusal.{Refusal}
 use Rattle.document.specs.declared.questions.Answer.{Answer}
 use Rattle.de.specs.declared.view.View.{View}
-use Rattle.de.specs.Moves.{sheets, branchIn, lacksChild}
+use Rattle.de.specs.Moves.{sheets, branch_in, lacks_child}
 use Rattle.document.specs.Reader.{asks}
-use Rattle.de.specs.Asked.{marking, branching, opensPlace}
+use Rattle.de.specs.Asked.{marking, branching, opens_place}
 use Rattle.de.specs.Served.{Consulted}
 use Rattle.de.specs.Viewed.{Looks}
 use Rattle.de.specs.Hearing.{Heard as HeardAs}
-use Rattle.de.specs.Taken.{takenIn, branched, branchThen, openedAt}
+use Rattle.de.specs.Taken.{taken_in, branched, branch_then, opened_at}
 use Rattle.de.proofs.Asking.{marking_is}
 use Rattle.de.proofs.Consulted.{bytes_of, has_root, look_safe, Looked, Listened, hear_safely, consulted_view, consulted_answer, consulted_depth, consulted_nodes, consulted_ok, take_safe, branch_safe}
 use Rattle.de.proofs.Sizes.{lengths_taken, lengths_branched}
@@ -66,7 +66,7 @@ returns-in_err-answer g c =
 pub returns-then-full : goal.returns-then-full
 returns-then-full g c =
     let h = goal.at.returns-then-full g c in
-    let full : (c.args.deep && opensPlace c.in_ok-answer.answer) ≡ true = search rules in
+    let full : (c.args.deep && opens_place c.in_ok-answer.answer) ≡ true = search rules in
     consulted_depth (listened g h.After-hear (Ok c.in_ok-answer.answer) c.in_ok-answer.was (looked g h.After-look (Ok c.in_ok-view.view) c.in_ok-view.was)) c.args.deep full
 
 -- the records are counted in range
@@ -78,10 +78,10 @@ lacks_child-requires g c =
 -- no record for a new branch
 pub returns-then-lacks_child : goal.returns-then-lacks_child
 returns-then-lacks_child g c =
-    let shallow : (c.args.deep && opensPlace c.in_ok-answer.answer) ≡ false = search rules in
+    let shallow : (c.args.deep && opens_place c.in_ok-answer.answer) ≡ false = search rules in
     let index = c.index_of-index.ensures in
     consulted_nodes (answered g (goal.at.returns-then-lacks_child g c).After-branch-child) c.args.deep shallow c.branch-child.result
-    (c.branch-child.ensures ∙ ap (branchIn (sheets c.look.new.self) c.in_ok-view.view.node) index) (sym (c.lacks_child.ensures ∙ ap (lacksChild (sheets c.look.new.self) c.branch-child.result) index) ∙ c.if-lacks_child.true)
+    (c.branch-child.ensures ∙ ap (branch_in (sheets c.look.new.self) c.in_ok-view.view.node) index) (sym (c.lacks_child.ensures ∙ ap (lacks_child (sheets c.look.new.self) c.branch-child.result) index) ∙ c.if-lacks_child.true)
 
 -- taking the answer is safe
 pub take_in-requires : goal.take_in-requires
@@ -93,7 +93,7 @@ take_in-requires g c =
 pub branch_out-child-requires : goal.branch_out-child-requires
 branch_out-child-requires g c =
     let index = c.index_of-index.ensures in
-    let lacks = sym (ap (lacksChild (sheets c.look.new.self) c.branch-child.result) index) ∙ sym c.lacks_child.ensures ∙ c.if-lacks_child.false in
+    let lacks = sym (ap (lacks_child (sheets c.look.new.self) c.branch-child.result) index) ∙ sym c.lacks_child.ensures ∙ c.if-lacks_child.false in
     rw (c.take_in.ensures, c.letters_of.ensures, index)
     (branch_safe (answered g (goal.at.branch_out-child-requires g c).After-branch-child) c.requires.readable c.requires.asks.0 c.requires.asks.1 c.branch-child.result lacks)
 
@@ -109,14 +109,14 @@ opened-opened-requires g c =
 -- the answer
 pub returns : goal.returns
 returns g c =
-    let shallow : (c.args.deep && opensPlace c.in_ok-answer.answer) ≡ false = search rules in
+    let shallow : (c.args.deep && opens_place c.in_ok-answer.answer) ≡ false = search rules in
     let index = c.index_of-index.ensures in
     let U = sheets c.look.new.self in
-    let lacks = sym (ap (lacksChild U c.branch-child.result) index) ∙ sym c.lacks_child.ensures ∙ c.if-lacks_child.false in
-    let at_child = c.branch-child.ensures ∙ ap (branchIn U c.in_ok-view.view.node) index in
-    let V = c.take_in.ensures ∙ ap (λ n. takenIn c.args.r c.in_ok-view.view n U) c.letters_of.ensures in
+    let lacks = sym (ap (lacks_child U c.branch-child.result) index) ∙ sym c.lacks_child.ensures ∙ c.if-lacks_child.false in
+    let at_child = c.branch-child.ensures ∙ ap (branch_in U c.in_ok-view.view.node) index in
+    let V = c.take_in.ensures ∙ ap (λ n. taken_in c.args.r c.in_ok-view.view n U) c.letters_of.ensures in
     let tables = c.branch_out-child.ensures.tables ∙ ap (λ o. branched c.args.r c.branch-child.result o (sheets c.take_in.new.self)) index ∙ ap (branched c.args.r c.branch-child.result (branching c.in_ok-answer.answer)) V in
-    let place = c.branch_out-child.ensures.place ∙ ap (λ o. branchThen c.branch-child.result o (sheets c.take_in.new.self)) index ∙ ap (branchThen c.branch-child.result (branching c.in_ok-answer.answer)) V in
-    let opened = c.opened-opened.ensures ∙ ap (λ k. openedAt (sheets c.branch_out-child.new.self) c.args.r k c.args.question c.in_ok-answer.answer) place in
+    let place = c.branch_out-child.ensures.place ∙ ap (λ o. branch_then c.branch-child.result o (sheets c.take_in.new.self)) index ∙ ap (branch_then c.branch-child.result (branching c.in_ok-answer.answer)) V in
+    let opened = c.opened-opened.ensures ∙ ap (λ k. opened_at (sheets c.branch_out-child.new.self) c.args.r k c.args.question c.in_ok-answer.answer) place in
     subst (λ o. Consulted (g.C.Column.meaning c.args.kind.now) c.args.input.now c.args.r c.args.question c.args.deep (sheets c.args.self.now) (sheets c.branch_out-child.new.self) (Ok (record { answer = c.in_ok-answer.answer; opened = o }))) (sym opened)
     (consulted_ok (answered g (goal.at.returns g c).After-branch-child) c.args.deep shallow c.branch-child.result at_child lacks (sheets c.branch_out-child.new.self) tables)

@@ -2,7 +2,7 @@ use Rattle.std.proofs.Common.{refl, ap, ◌∙◌}
 use Rattle.std.proofs.lemmas.Result.{err_from_is_err_and}
 use Rattle.std.proofs.lemmas.Bool.{true≢false, false≢true}
 use Rattle.document.specs.Said.{said}
-use Rattle.ser.specs.Moves.{sheets, branchIn}
+use Rattle.ser.specs.Moves.{sheets, branch_in}
 use Rattle.ser.proofs.Weighing.{entering-accepted, entering-refused, entered-found}
 use Rattle.ser.proofs.Roomy.{put-safe, unit-safe}
 use Rattle.ser.proofs.store.Tables.enter.Goals as goal
@@ -11,7 +11,7 @@ use Rattle.ser.proofs.store.Tables.enter.Goals as goal
 pub returns-in_err-judge : goal.returns-in_err-judge
 returns-in_err-judge c =
     let T = sheets c.args.self.now in
-    let found = c.branch-child.ensures ∙ ap (branchIn T c.args.r) c.index_of.ensures in
+    let found = c.branch-child.ensures ∙ ap (branch_in T c.args.r) c.index_of.ensures in
     let p = err_from_is_err_and c.from_residual.result c.from_residual.ensures.1 in
     rw (p.1, p.2)
     record {
@@ -27,7 +27,7 @@ put_all-child-requires c =
     let r = c.args.r in
     let k = c.branch-child.result in
     let s = said c.args.call in
-    let found = c.branch-child.ensures ∙ ap (branchIn T r) c.index_of.ensures in
+    let found = c.branch-child.ensures ∙ ap (branch_in T r) c.index_of.ensures in
     record {
       put = put-safe T r k s c.requires.safe c.requires.within.0 c.requires.within.1 c.in_ok-judge.ensures;
       unit = unit-safe T r k s c.requires.safe c.requires.within.0 c.requires.within.1 found c.in_ok-judge.ensures;
@@ -40,7 +40,7 @@ returns c =
     let r = c.args.r in
     let k = c.branch-child.result in
     let s = said c.args.call in
-    let found = c.branch-child.ensures ∙ ap (branchIn T r) c.index_of.ensures in
+    let found = c.branch-child.ensures ∙ ap (branch_in T r) c.index_of.ensures in
     record {
       answer = entering-accepted T r k s (sheets c.put_all-child.new.self) c.put_all-child.result c.opened.result found c.in_ok-judge.ensures c.put_all-child.ensures.tables c.put_all-child.ensures.place c.opened.ensures;
       tables = λ _. entered-found T r k s (sheets c.put_all-child.new.self) found c.put_all-child.ensures.tables;

@@ -7,16 +7,16 @@ use Rattle.document.specs.declared.refusals.Refusal.{Refusal}
 use Rattle.ser.specs.declared.records.Node.{Node}
 use Rattle.ser.specs.declared.records.Cell.{Cell}
 use Rattle.ser.specs.Moves.{Sheets, sheets}
-use Rattle.ser.specs.Out.{NodeSafe, nodeImage, ordered, imageUpTo, image_of, ending, Put}
+use Rattle.ser.specs.Out.{NodeSafe, node_image, ordered, image_up_to, image_of, ending, Put}
 use Rattle.ser.proofs.Outputs.{put-within, put_then, put-stop, put_as}
 use Rattle.ser.proofs.store.Tables.write_nodes.Goals as goal
 
 -- where the bytes of some nodes find no room, those of more do not either
-stop-all : (col : Meaning) (T : Sheets) (old new : List ℕ) (e : Refusal) (m n : ℕ) → n ≤ m → Put 0 (imageUpTo col T n) old new (Err e) → Put 0 (imageUpTo col T m) old new (Err e)
-stop-all col T old new e zero n l p = let z : n ≡ 0 = omega arith in put_as (ap (imageUpTo col T) z) refl p
+stop-all : (col : Meaning) (T : Sheets) (old new : List ℕ) (e : Refusal) (m n : ℕ) → n ≤ m → Put 0 (image_up_to col T n) old new (Err e) → Put 0 (image_up_to col T m) old new (Err e)
+stop-all col T old new e zero n l p = let z : n ≡ 0 = omega arith in put_as (ap (image_up_to col T) z) refl p
 stop-all col T old new e (suc m) n l p = ⊎_elim
-    (λ z. put_as (ap (imageUpTo col T) z) refl p)
-    (λ z. put-stop 0 (imageUpTo col T m) (nodeImage col T.cells T.text (ordered T m)) old new e (stop-all col T old new e m n (omega (arith, z)) p))
+    (λ z. put_as (ap (image_up_to col T) z) refl p)
+    (λ z. put-stop 0 (image_up_to col T m) (node_image col T.cells T.text (ordered T m)) old new e (stop-all col T old new e m n (omega (arith, z)) p))
     (cases_eq n (suc m))
 
 -- what is safe is so under other names
@@ -29,17 +29,17 @@ node-safe-as {cs = cs} {ds = ds} {text = text} {letters = letters} {n = n} {m = 
     subst P (sym a) (subst Q (sym b) (subst R (sym c) (subst S (sym e) h)))
 
 -- and has the same bytes
-node-image-as : (col : Meaning) {cs ds : List Cell} {text letters : List ℕ} {r s : Node} → cs ≡ ds → text ≡ letters → r ≡ s → nodeImage col cs text r ≡ nodeImage col ds letters s
+node-image-as : (col : Meaning) {cs ds : List Cell} {text letters : List ℕ} {r s : Node} → cs ≡ ds → text ≡ letters → r ≡ s → node_image col cs text r ≡ node_image col ds letters s
 node-image-as col {cs = cs} {ds = ds} {text = text} {letters = letters} {r = r} {s = s} a b e =
-    ap (λ x. nodeImage col x text r) a ∙ ap (λ x. nodeImage col ds x r) b ∙ ap (nodeImage col ds letters) e
+    ap (λ x. node_image col x text r) a ∙ ap (λ x. node_image col ds x r) b ∙ ap (node_image col ds letters) e
 
 -- the bytes of all nodes, from the first place on
-put-all-nodes : (col : Meaning) (T : Sheets) (old new : List ℕ) (r : Result ℕ Refusal) (n : ℕ) → n ≡ T.marked → Put 0 (imageUpTo col T n) old new r
+put-all-nodes : (col : Meaning) (T : Sheets) (old new : List ℕ) (r : Result ℕ Refusal) (n : ℕ) → n ≡ T.marked → Put 0 (image_up_to col T n) old new r
     → (r ≡ ending (length (image_of col T)) (length old)) × Written r 0 (image_of col T) old new
 unfolding image_of
 put-all-nodes col T old new r n e p =
-    let q = put_as (ap (imageUpTo col T) e) refl p in
-    let z : 0 + length (imageUpTo col T T.marked) ≡ length (imageUpTo col T T.marked) = omega arith in
+    let q = put_as (ap (image_up_to col T) e) refl p in
+    let z : 0 + length (image_up_to col T T.marked) ≡ length (image_up_to col T T.marked) = omega arith in
     (q.answer ∙ ap (λ k. ending k (length old)) z, q.bytes)
 
 -- the record that was marked next lies within the node table
@@ -65,7 +65,7 @@ returns-in_err-place g c =
     let j = c.loop-j.j in
     let old = c.args.output.now in
     let put = put_as (node-image-as col c.deref.ensures.value c.deref-in-loop-j.ensures.value c.in_order-node.ensures) refl c.in_err-place.ensures in
-    let here = put_then 0 (imageUpTo col T j) (nodeImage col T.cells T.text (ordered T j)) old c.loop-j.output c.write_node.new.output c.loop-j.place _ c.loop-j.invariant put in
+    let here = put_then 0 (image_up_to col T j) (node_image col T.cells T.text (ordered T j)) old c.loop-j.output c.write_node.new.output c.loop-j.place _ c.loop-j.invariant put in
     let all = stop-all col T old c.write_node.new.output _ T.marked (suc j) (omega arith) here in
     let p = put-all-nodes col T old c.write_node.new.output c.from_residual.result T.marked refl (put_as refl (sym (passed_on c.from_residual.result _ c.from_residual.ensures.1)) all) in
     record { answer = p.0; bytes = p.1 }
@@ -78,8 +78,8 @@ loop-j-preserved g c =
     let j = c.loop-j.j in
     let t = c.loop-j-test.true in
     let put = put_as (node-image-as col c.deref.ensures.value c.deref-in-loop-j.ensures.value c.in_order-node.ensures) refl c.in_ok-place.ensures in
-    let here = put_then 0 (imageUpTo col T j) (nodeImage col T.cells T.text (ordered T j)) c.args.output.now c.loop-j.output c.write_node.new.output c.loop-j.place _ c.loop-j.invariant put in
-    put_as (ap (imageUpTo col T) (sym (add-one j))) refl here
+    let here = put_then 0 (image_up_to col T j) (node_image col T.cells T.text (ordered T j)) c.args.output.now c.loop-j.output c.write_node.new.output c.loop-j.place _ c.loop-j.invariant put in
+    put_as (ap (image_up_to col T) (sym (add-one j))) refl here
 
 -- the bytes of all are put
 pub returns : goal.returns

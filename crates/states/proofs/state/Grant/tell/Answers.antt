@@ -1,7 +1,7 @@
 use Rattle.std.proofs.Common.{Ok, Err}
 use Rattle.document.specs.declared.scalars.Scalar.TheVariants.{U8}
 use Rattle.document.specs.Calls.{val, scalar, some, none}
-use Rattle.states.specs.Documents.{targetCalls}
+use Rattle.states.specs.Documents.{target_calls}
 use Rattle.states.proofs.Added.{call-told, call-next, ended}
 use Rattle.states.proofs.state.Grant.tell.Goals as goal
 
@@ -9,7 +9,7 @@ pub returns-in_err-call : goal.returns-in_err-call
 returns-in_err-call c =
     let e = c.in_err-call.field-0.0 in
     let card = call-told c.args.writer.now c.call.new.self (val (scalar U8 c.args.self.card)) (Err e) c.in_err-call.ensures in
-    ended (targetCalls c.args.self.seat) e c.from_residual.result c.from_residual.ensures.1 card
+    ended (target_calls c.args.self.seat) e c.from_residual.result c.from_residual.ensures.1 card
 
 pub returns-in_ok-call-in-Some : goal.returns-in_ok-call-in-Some
 returns-in_ok-call-in-Some c =

@@ -1,6 +1,6 @@
 use Rattle.std.proofs.Common.{Ok, Err, [], ◌∷◌}
 use Rattle.document.specs.Calls.{end}
-use Rattle.states.specs.Documents.{handCalls, grantsCalls}
+use Rattle.states.specs.Documents.{hand_calls, grants_calls}
 use Rattle.states.proofs.Added.{more-told, rest-untold, ended, call-next}
 use Rattle.states.proofs.state.Seat.tell.Goals as goal
 
@@ -8,16 +8,16 @@ pub returns-in_err-tell_hand : goal.returns-in_err-tell_hand
 returns-in_err-tell_hand c =
     let seat = c.args.self.now in
     let e = c.in_err-tell_hand.field-0.0 in
-    let hand = rest-untold c.args.writer.now c.tell_hand.new.writer (handCalls seat) (grantsCalls seat.grants.now) e c.in_err-tell_hand.ensures in
+    let hand = rest-untold c.args.writer.now c.tell_hand.new.writer (hand_calls seat) (grants_calls seat.grants.now) e c.in_err-tell_hand.ensures in
     ended (end ∷ []) e c.from_residual.result c.from_residual.ensures.1 hand
 
 pub returns-in_err-tell_grants : goal.returns-in_err-tell_grants
 returns-in_err-tell_grants c =
     let e = c.in_err-tell_grants.field-0.0 in
-    let granted = more-told c.tell_grants.new.writer (grantsCalls c.args.self.now.grants.now) (Err e) c.in_ok-tell_hand.ensures c.in_err-tell_grants.ensures in
+    let granted = more-told c.tell_grants.new.writer (grants_calls c.args.self.now.grants.now) (Err e) c.in_ok-tell_hand.ensures c.in_err-tell_grants.ensures in
     ended (end ∷ []) e c.from_residual-in_err-tell_grants.result c.from_residual-in_err-tell_grants.ensures.1 granted
 
 pub returns : goal.returns
 returns c =
-    let granted = more-told c.tell_grants.new.writer (grantsCalls c.args.self.now.grants.now) (Ok tt) c.in_ok-tell_hand.ensures c.in_ok-tell_grants.ensures in
+    let granted = more-told c.tell_grants.new.writer (grants_calls c.args.self.now.grants.now) (Ok tt) c.in_ok-tell_hand.ensures c.in_ok-tell_grants.ensures in
     call-next c.call.new.self end c.call.result granted c.call.ensures
