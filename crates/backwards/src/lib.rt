@@ -18,6 +18,7 @@ pub struct Backwards<C> {
     pub lower: C,
 }
 
+// Stays: written out beside `Steps` of crate `column`, as a user's own kind is, which this crate shows.
 impl<C: Column> Column for Backwards<C> {
     ghost meaning = { λ layer. backwards (C.meaning layer.lower) };
 

@@ -1,3 +1,5 @@
 pub mod Kinds
+pub mod Laws
 pub mod Fnv
 pub mod Answers
+pub mod Tallies

@@ -54,6 +54,7 @@ impl Digest {
 }
 
 /// The code of a cause in a digest.
+// Stays: the digests of the data file were made with these numbers.
 fn code(cause: Cause) -> u8
     ensures { elim cause [ Room ↦ result ≡ 1 | Short ↦ result ≡ 2 | Bad ↦ result ≡ 3 ] }
 {

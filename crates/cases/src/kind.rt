@@ -1,15 +1,15 @@
 //! The column kinds by name.
 
-ghost use Rattle.std.specs.Prelude.{◌≡◌, length, OnOk};
-ghost use Rattle.column.specs.Parsed.{told, values_of};
-ghost use Rattle.column.specs.Interface.{writing, Written, reading};
 ghost use Rattle.cases.specs.Kinds.{meaning_of};
+ghost use Rattle.cases.specs.Laws.{kind-lawful};
 
+use anyhow::anyhow;
 use column::fault::Fault;
 use column::flat::Flat;
 use column::interface::Column;
 use column::short::Short;
 use column::steps::Steps;
+use std::str::FromStr;
 
 /// A column kind, with the layers above it.
 #[derive(Clone, Copy)]
@@ -26,31 +26,37 @@ const STEPS_FLAT: Steps<Flat> = Steps { lower: Flat };
 
 const STEPS_SHORT: Steps<Short> = Steps { lower: Short };
 
-impl Kind {
-    pub(crate) fn named(name: &str) -> Option<Kind> {
+impl FromStr for Kind {
+    type Err = anyhow::Error;
+
+    fn from_str(name: &str) -> anyhow::Result<Kind> {
         match name {
-            "flat" => Some(Kind::Flat),
-            "short" => Some(Kind::Short),
-            "steps/flat" => Some(Kind::StepsFlat),
-            "steps/short" => Some(Kind::StepsShort),
-            "steps/steps/flat" => Some(Kind::StepsStepsFlat),
-            "steps/steps/short" => Some(Kind::StepsStepsShort),
-            _ => None,
+            "flat" => Ok(Kind::Flat),
+            "short" => Ok(Kind::Short),
+            "steps/flat" => Ok(Kind::StepsFlat),
+            "steps/short" => Ok(Kind::StepsShort),
+            "steps/steps/flat" => Ok(Kind::StepsStepsFlat),
+            "steps/steps/short" => Ok(Kind::StepsStepsShort),
+            _ => Err(anyhow!("an unknown kind")),
         }
     }
+}
 
-    /// Writes by the kind that is named.
-    pub(crate) fn write(
-        self,
+/// Writes and reads by the kind that is named.
+// Stays: six kinds, and a match in each call. A kind with a boxed kind below it would be made on the heap, and its laws by recursion, to say what six names say.
+impl Column for Kind {
+    ghost meaning = { meaning_of };
+
+    ghost lawful = { kind-lawful };
+
+    fn write(
+        &self,
         layer: u16,
         width: u32,
         values: &mut [u64],
         output: &mut [u8],
         place: usize,
-    ) -> Result<usize, Fault>
-        ensures answer { result ≡ writing (meaning_of self) layer width values.old (length output.old) place }
-        ensures bytes { Written result place ((meaning_of self).image width values.old) output.old output.new }
-    {
+    ) -> Result<usize, Fault> {
         match self {
             Kind::Flat => Flat.write(layer, width, values, output, place),
             Kind::Short => Short.write(layer, width, values, output, place),
@@ -65,18 +71,14 @@ impl Kind {
         }
     }
 
-    /// Reads by the kind that is named.
-    pub(crate) fn read(
-        self,
+    fn read(
+        &self,
         layer: u16,
         width: u32,
         values: &mut [u64],
         input: &[u8],
         place: usize,
-    ) -> Result<usize, Fault>
-        ensures answer { result ≡ told layer (reading (meaning_of self) width (length values.old) input.now place) }
-        ensures values { OnOk result (values.new ≡ values_of (reading (meaning_of self) width (length values.old) input.now place)) }
-    {
+    ) -> Result<usize, Fault> {
         match self {
             Kind::Flat => Flat.read(layer, width, values, input, place),
             Kind::Short => Short.read(layer, width, values, input, place),

@@ -32,7 +32,7 @@ fn difference(alloc: Global, line: &str) -> anyhow::Result<Option<String>> {
 /// Compares the lines below a group's title, and prints what came of them.
 fn run_group(rt: &HostRuntime, group: &str) -> anyhow::Result<Tally> {
     let (title, lines) = group.split_once('\n').context("a group without a line")?;
-    let mut tally = Tally::new();
+    let mut tally = Tally::default();
     for line in lines.lines() {
         let found = difference(rt.alloc(), line)?;
         tally.count(found.is_none());
@@ -52,13 +52,13 @@ fn run_file(rt: &HostRuntime, name: &str, total: &mut Tally) -> anyhow::Result<(
     let text = fs::read_to_string(rt, name)?;
     println!(rt; "{name}")?;
     for group in text.split("\ngroup ").skip(1) {
-        total.add(run_group(rt, group)?);
+        *total += run_group(rt, group)?;
     }
     Ok(())
 }
 
 fn main(rt: HostRuntime) -> anyhow::Result<()> {
-    let mut total = Tally::new();
+    let mut total = Tally::default();
     run_file(&rt, "cases.txt", &mut total)?;
     run_file(&rt, "digests.txt", &mut total)?;
     println!(rt; "total: {total}")?;

@@ -6,12 +6,14 @@ ghost use Rattle.column.specs.Interface.{writing, reading};
 ghost use Rattle.cases.specs.Kinds.{meaning_of};
 ghost use Rattle.cases.specs.Answers.{Wrote, Heard, Answered};
 
-use crate::answer::Answer;
+use crate::answer::{Answer, Reading};
 use crate::digest::Digest;
 use crate::kind::Kind;
-use crate::strings::{StringSet, Taker};
+use crate::strings::StringSet;
 use crate::words::Words;
 use anyhow::anyhow;
+use column::fault::Fault;
+use column::interface::Column;
 use std::alloc::{AllocError, Global};
 
 /// Outputs hold this byte before a write.
@@ -67,22 +69,22 @@ impl Question {
             "write" => Ok(Question::Write {
                 call: Call::parse(&mut words)?,
                 values: words.values(alloc)?,
-                room: words.size()?,
-                place: words.size()?,
+                room: words.parsed()?,
+                place: words.parsed()?,
             }),
             "read" => Ok(Question::Read {
                 call: Call::parse(&mut words)?,
-                count: words.size()?,
+                count: words.parsed()?,
                 input: words.bytes(alloc)?,
-                place: words.size()?,
+                place: words.parsed()?,
             }),
             "text" => Ok(Question::Text {
                 input: words.bytes(alloc)?,
             }),
             "reads" => Ok(Question::Reads {
-                kind: words.kind()?,
-                width: words.width()?,
-                count: words.size()?,
+                kind: words.parsed()?,
+                width: words.parsed()?,
+                count: words.parsed()?,
                 set: words.set()?,
             }),
             "texts" => Ok(Question::Texts { set: words.set()? }),
@@ -106,7 +108,7 @@ impl Question {
                 count,
                 input,
                 place,
-            } => Ok(call.read(vec![in alloc; 0; count]?, &input, place)),
+            } => Ok(Answer::Read(call.read(vec![in alloc; 0; count]?, &input, place))),
             Question::Text { input } => Ok(Answer::Judged {
                 formed: utf8::well_formed(&input).is_ok(),
             }),
@@ -115,8 +117,8 @@ impl Question {
                 width,
                 count,
                 set,
-            } => reads(alloc, kind, width, count, set),
-            Question::Texts { set } => Ok(texts(set)),
+            } => Ok(Answer::Digest(reads(alloc, kind, width, count, set)?)),
+            Question::Texts { set } => Ok(Answer::Digest(texts(set))),
         }
     }
 }
@@ -124,9 +126,9 @@ impl Question {
 impl Call {
     fn parse(words: &mut Words<'_>) -> anyhow::Result<Call> {
         Ok(Call {
-            kind: words.kind()?,
-            layer: words.layer()?,
-            width: words.width()?,
+            kind: words.parsed()?,
+            layer: words.parsed()?,
+            width: words.parsed()?,
         })
     }
 
@@ -134,61 +136,23 @@ impl Call {
     fn write(self, values: &mut [u64], mut output: Vec<u8>, place: usize) -> Answer
         ensures { Wrote result (writing (meaning_of self.kind) self.layer self.width values.old (vec_len output) place) place ((meaning_of self.kind).image self.width values.old) output.items }
     {
-        match self
+        let result = self
             .kind
-            .write(self.layer, self.width, values, &mut output, place)
-        {
-            Ok(used) => Answer::Written { used, output },
-            Err(fault) => {
-                output.truncate(place);
-                Answer::Unwritten {
-                    fault,
-                    front: output,
-                }
-            }
+            .write(self.layer, self.width, values, &mut output, place);
+        if result.is_err() {
+            output.truncate(place);
         }
+        Answer::Write { result, output }
     }
 
     /// Reads values at a place of the input.
-    fn read(self, mut values: Vec<u64>, input: &[u8], place: usize) -> Answer
-        ensures { Heard result (told self.layer (reading (meaning_of self.kind) self.width (vec_len values) input.now place)) (values_of (reading (meaning_of self.kind) self.width (vec_len values) input.now place)) }
+    fn read(self, mut values: Vec<u64>, input: &[u8], place: usize) -> Result<Reading, Fault>
+        ensures { Heard (Answer.Read result) (told self.layer (reading (meaning_of self.kind) self.width (vec_len values) input.now place)) (values_of (reading (meaning_of self.kind) self.width (vec_len values) input.now place)) }
     {
-        match self
+        let used = self
             .kind
-            .read(self.layer, self.width, &mut values, input, place)
-        {
-            Ok(used) => Answer::Values { used, values },
-            Err(fault) => Answer::Unread { fault },
-        }
-    }
-}
-
-/// Reads strings into a digest.
-#[derive(Drop)]
-struct ReadDigest {
-    kind: Kind,
-    width: u32,
-    values: Vec<u64>,
-    digest: Digest,
-}
-
-impl Taker for ReadDigest {
-    fn take(&mut self, string: &[u8]) {
-        let answer = self.kind.read(0, self.width, &mut self.values, string, 0);
-        self.digest.read(answer, &self.values);
-    }
-}
-
-/// Judges strings as text into a digest.
-#[derive(Clone, Copy)]
-struct TextDigest {
-    digest: Digest,
-}
-
-impl Taker for TextDigest {
-    fn take(&mut self, string: &[u8]) {
-        self.digest
-            .byte(u8::from(utf8::well_formed(string).is_ok()));
+            .read(self.layer, self.width, &mut values, input, place)?;
+        Ok(Reading { used, values })
     }
 }
 
@@ -199,30 +163,19 @@ fn reads(
     width: u32,
     count: usize,
     set: StringSet,
-) -> Result<Answer, AllocError>
-    ensures { IfOk result (λ a. (state : ℕ) × (a ≡ Answer.Digest state)) }
-{
-    let mut taker = ReadDigest {
-        kind,
-        width,
-        values: vec![in alloc; 0; count]?,
-        digest: Digest::new(),
-    };
-    set.each(&mut taker);
-    Ok(Answer::Digest {
-        state: taker.digest.state,
-    })
+) -> Result<Digest, AllocError> {
+    let mut values = vec![in alloc; 0; count]?;
+    let mut digest = Digest::new();
+    set.each(|string| {
+        let answer = kind.read(0, width, &mut values, string, 0);
+        digest.read(answer, &values);
+    });
+    Ok(digest)
 }
 
 /// The digest of whether each string of a set is text.
-fn texts(set: StringSet) -> Answer
-    ensures { (state : ℕ) × (result ≡ Answer.Digest state) }
-{
-    let mut taker = TextDigest {
-        digest: Digest::new(),
-    };
-    set.each(&mut taker);
-    Answer::Digest {
-        state: taker.digest.state,
-    }
+fn texts(set: StringSet) -> Digest {
+    let mut digest = Digest::new();
+    set.each(|string| digest.byte(u8::from(utf8::well_formed(string).is_ok())));
+    digest
 }

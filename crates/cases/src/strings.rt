@@ -17,41 +17,32 @@ const EDGES: [u8; 24] = [
     0xee, 0xef, 0xf0, 0xf1, 0xf3, 0xf4, 0xf5, 0xff,
 ];
 
-/// Takes strings, one after another.
-pub trait Taker {
-    fn take(&mut self, string: &[u8]);
-}
-
 impl StringSet {
     /// Hands on each string of the set, in order.
-    pub(crate) fn each<T: Taker>(self, taker: &mut T) {
+    pub(crate) fn each<F: FnMut(&[u8])>(self, mut take: F)
+        requires { F.IsAlwaysCallable take }
+    {
         match self {
-            StringSet::Few => few(taker),
-            StringSet::Pairs(first) => pairs(first, taker),
-            StringSet::Edges(first) => edges(first, taker),
-        }
-    }
-}
-
-fn few<T: Taker>(taker: &mut T) {
-    taker.take(&[]);
-    for only in 0..=u8::MAX {
-        taker.take(&[only]);
-    }
-}
-
-fn pairs<T: Taker>(first: u8, taker: &mut T) {
-    for second in 0..=u8::MAX {
-        taker.take(&[first, second]);
-    }
-}
-
-fn edges<T: Taker>(first: u8, taker: &mut T) {
-    for second in EDGES {
-        for third in EDGES {
-            taker.take(&[first, second, third]);
-            for fourth in EDGES {
-                taker.take(&[first, second, third, fourth]);
+            StringSet::Few => {
+                take(&[]);
+                for only in 0..=u8::MAX {
+                    take(&[only]);
+                }
+            }
+            StringSet::Pairs(first) => {
+                for second in 0..=u8::MAX {
+                    take(&[first, second]);
+                }
+            }
+            StringSet::Edges(first) => {
+                for second in EDGES {
+                    for third in EDGES {
+                        take(&[first, second, third]);
+                        for fourth in EDGES {
+                            take(&[first, second, third, fourth]);
+                        }
+                    }
+                }
             }
         }
     }

@@ -2,10 +2,10 @@
 
 ghost use Rattle.std.specs.Prelude.{◌<◌, IfOk};
 
-use crate::kind::Kind;
 use crate::strings::StringSet;
-use anyhow::{Context, anyhow};
+use anyhow::anyhow;
 use std::alloc::Global;
+use std::str::FromStr;
 
 /// What is left of a line.
 #[derive(Drop)]
@@ -23,61 +23,36 @@ impl<'a> Words<'a> {
         if self.rest.is_empty() {
             return Err(anyhow!("a word is missing"));
         }
-        match self.rest.split_once(' ') {
-            Some((word, rest)) => {
-                self.rest = rest;
-                Ok(word)
-            }
-            None => {
-                let word = self.rest;
-                self.rest = "";
-                Ok(word)
-            }
-        }
+        let (word, rest) = self.rest.split_once(' ').unwrap_or((self.rest, ""));
+        self.rest = rest;
+        Ok(word)
     }
 
-    pub(crate) fn number(&mut self) -> anyhow::Result<u64> {
-        Ok(self.word()?.parse::<u64>()?)
-    }
-
-    pub(crate) fn size(&mut self) -> anyhow::Result<usize> {
-        Ok(self.number()? as usize)
-    }
-
-    pub(crate) fn layer(&mut self) -> anyhow::Result<u16> {
-        Ok(u16::try_from(self.number()?)?)
-    }
-
-    pub(crate) fn width(&mut self) -> anyhow::Result<u32> {
-        Ok(u32::try_from(self.number()?)?)
-    }
-
-    pub(crate) fn kind(&mut self) -> anyhow::Result<Kind> {
-        Ok(Kind::named(self.word()?).context("an unknown kind")?)
+    /// The next word, as the number or the name that is wanted.
+    pub(crate) fn parsed<T: FromStr>(&mut self) -> anyhow::Result<T>
+    where
+        anyhow::Error: From<T::Err>,
+    {
+        Ok(self.word()?.parse::<T>()?)
     }
 
     /// Values with commas, or '-' for none.
     pub(crate) fn values(&mut self, alloc: Global) -> anyhow::Result<Vec<u64>> {
-        let word = self.word()?;
-        let mut values = Vec::new(alloc);
-        if word != "-" {
-            for value in word.split(',') {
-                values.push(value.parse::<u64>()?)?;
-            }
+        match self.word()? {
+            "-" => Ok(Vec::new(alloc)),
+            values => values
+                .split(',')
+                .map(|value| -> anyhow::Result<u64> { Ok(value.parse::<u64>()?) })
+                .try_collect(alloc),
         }
-        Ok(values)
     }
 
     /// Bytes of two digits each, or '-' for none.
     pub(crate) fn bytes(&mut self, alloc: Global) -> anyhow::Result<Vec<u8>> {
-        let word = self.word()?;
-        let mut bytes = Vec::new(alloc);
-        if word != "-" {
-            for pair in word.as_bytes().chunks(2) {
-                bytes.push(byte(pair)?)?;
-            }
+        match self.word()? {
+            "-" => Ok(Vec::new(alloc)),
+            bytes => bytes.as_bytes().chunks(2).map(byte).try_collect(alloc),
         }
-        Ok(bytes)
     }
 
     pub(crate) fn set(&mut self) -> anyhow::Result<StringSet> {
@@ -99,6 +74,7 @@ fn byte(digits: &[u8]) -> anyhow::Result<u8> {
 }
 
 /// The value of a hexadecimal digit.
+// Stays: the library's conversions, as `to_digit` and `from_str_radix`, take capital letters too, which are no digits of the data files.
 fn digit(letter: u8) -> anyhow::Result<u8>
     ensures { IfOk result (λ d. d < 16) }
 {

@@ -1,4 +1,5 @@
 pub mod Courses
+pub mod Walking
 pub mod Links
 pub mod Tables
 pub mod Replies

@@ -20,16 +20,16 @@ within-parts n chain place h =
 -- after an acceptance the test holds, and the answer is the longer chain
 pub accepted : (t : Bool) (made c : Chain) (r : Result Chain Fault) → r ≡ cond t (Ok made) (Err Outside) → r ≡ Ok c → (t ≡ true) × (c ≡ made)
 accepted true made c r e o = (refl, cc)
-accepted false made c r e o = let z : ◌≡◌ {A = ℕ} 0 1 = cc in absurd (omega arith)
+accepted false made c r e o = cc
 
 -- after a refusal it does not
 pub refused : (t : Bool) (made : Chain) (f : Fault) (r : Result Chain Fault) → r ≡ cond t (Ok made) (Err Outside) → r ≡ Err f → t ≡ false
-refused true made f r e o = let z : ◌≡◌ {A = ℕ} 0 1 = cc in absurd (omega arith)
+refused true made f r e o = cc
 refused false made f r e o = refl
 
 -- what follows of an accepted append, and of a refused one
 pub append_cases : {R : Type 0} {P Q : Chain → Type 0} (r : Result Chain Fault) (t : Bool) (made : Chain) (entry exit full : List R)
     → r ≡ cond t (Ok made) (Err Outside) → exit ≡ cond t full entry → IfOk r P → ((c : Chain) → P c → Q c) → MatchResult r Q (λ _. exit ≡ entry)
 append_cases (Ok c) t made entry exit full e f h so = so c h
-append_cases (Err x) true made entry exit full e f h so = let z : ◌≡◌ {A = ℕ} 0 1 = cc in absurd (omega arith)
+append_cases (Err x) true made entry exit full e f h so = cc
 append_cases (Err x) false made entry exit full e f h so = f

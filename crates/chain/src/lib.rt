@@ -12,6 +12,7 @@ pub use crate::walks::Walk;
 mod walks;
 
 /// A record that names the next one of its chain; 0 ends the chain.
+// Stays: record 0 of the caller's table is unused by the project's rule, so 0 says "none" here, in a chain and in a search; an `Option` of an index would take twice the room in each record.
 pub trait Linked: Copy {
     // the index that a record has for the next one
     ghost next_of: { Self → ℕ };
@@ -80,8 +81,8 @@ pub fn append<R: Linked>(
     }
     table[chain.last].link(place);
     Ok(Chain {
-        first: chain.first,
         last: place,
+        ..chain
     })
 }
 

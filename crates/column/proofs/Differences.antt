@@ -4,7 +4,7 @@ use Rattle.std.proofs.Common.{sym, ◌∙◌, ap, arith, pow_pos, pow-add}
 use Rattle.std.proofs.Math.Nat.{add-mul-mod_self_left}
 use Rattle.std.proofs.Math.Pow.{mod-mod-pow}
 use Rattle.std.proofs.lemmas.Nat.{and_mask}
-use Rattle.std.proofs.lemmas.List.{take_more_set, drop-set-lt, append_assoc, append-nil, take_all, drop_all}
+use Rattle.std.proofs.lemmas.List.{take_more_set, drop-set-lt, append_assoc}
 
 -- ---- one step
 
@@ -34,7 +34,3 @@ changed-more F G vs i d all h e f =
     ∙ append_assoc (take i vs) (d ∷ []) (G (drop (i + 1) vs))
     ∙ ap (λ (ys : List ℕ). take i vs ++ ys) (sym e)
     ∙ f
-
-pub changed-all : (F : List ℕ → List ℕ) (vs : List ℕ) (i : ℕ) (all : List ℕ) → F [] ≡ [] → length vs ≤ i → take i vs ++ F (drop i vs) ≡ all → vs ≡ all
-changed-all F vs i all none h f =
-    sym (ap (λ (xs : List ℕ). xs ++ F (drop i vs)) (take_all i vs h) ∙ ap (λ ys. vs ++ F ys) (drop_all i vs h) ∙ ap (λ (ys : List ℕ). vs ++ ys) none ∙ append-nil vs) ∙ f

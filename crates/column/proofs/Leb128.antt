@@ -1,19 +1,20 @@
 -- The short kind: a value's groups one by one, the loops over them, and what reading one value answers.
-use Rattle.std.specs.Prelude.{◌≡◌, ℕ, zero, suc, ◌+◌, ◌-◌, ◌*◌, ◌/◌, ◌%◌, ◌^◌, ◌<◌, ◌≤◌, true, ◌⊎◌, List, [], ◌∷◌, length, take, drop, Ok, Err, slice_index, slice_index_or, slice_set, refl}
-use Rattle.std.proofs.Common.{sym, ◌∙◌, ap, ap₂, inl, inr, arith, pow_mono}
-use Rattle.std.proofs.lemmas.List.{drop_more, drop_all, take_more, length-take, get_or-take, length-set, take-set-le}
+use Rattle.std.specs.Prelude.{◌≡◌, ℕ, zero, suc, ◌+◌, ◌-◌, ◌*◌, ◌/◌, ◌%◌, ◌^◌, ◌<◌, ◌≤◌, Bool, true, cond, ◌⊎◌, List, [], ◌∷◌, ◌++◌, length, take, drop, Option, Some, None, Result, Ok, Err, nat_lt, position, slice_index, slice_index_or, slice_set, refl}
+use Rattle.std.specs.List.{position_from}
+use Rattle.std.proofs.Common.{sym, ◌∙◌, ap, ap₂, inl, inr, add-zero, arith, pow_mono}
+use Rattle.std.proofs.lemmas.List.{append_assoc, drop_more, drop_all, drop-drop, drop-set-lt, length-take, get_or-take, length-set, take_more_set}
+use Rattle.std.proofs.lemmas.Iterator.Adapters.{position_from-zero}
 use Rattle.std.proofs.lemmas.Bool.{lt-ltb, le-ltb, cases_lt}
 use Rattle.column.specs.declared.fault.Cause.TheVariants.{Short, Bad}
+use Rattle.column.specs.declared.fault.Fault.{Fault}
 use Rattle.column.specs.Widths.{listed}
-use Rattle.column.specs.Parsed.{Parsed, got, short, bad, told}
+use Rattle.column.specs.Parsed.{Parsed, got, short, bad, fault, told}
 use Rattle.column.specs.Coded.{onto, taken}
 use Rattle.column.specs.Digits.{total}
 use Rattle.column.specs.Short.{groups, leb128, front, short_one}
-use Rattle.column.specs.Interface.{overlaid}
 use Rattle.column.specs.Laws.Listed.{width-most}
 use Rattle.column.specs.Laws.Short.{groups-small, groups-more, form-some, leb-fewest, Fronted, fronted}
-use Rattle.column.proofs.Choice.{found_here}
-use Rattle.column.proofs.Overlaid.{overlaid-one, overlaid-more}
+use Rattle.column.proofs.Overlaid.{overlaid-one}
 use Rattle.column.proofs.OneByOne.{onto-onto}
 
 -- ---- a value's groups
@@ -36,72 +37,80 @@ pub leb-more : (v : ℕ) → 128 ≤ v → v < 2 ^ 64 → leb128 v ≡ (v % 128 
 unfolding leb128
 leb-more v h b = groups-more 8 v h ∙ ap (λ (gs : List ℕ). (v % 128 + 128) ∷ gs) (groups-enough 8 9 (v / 128) (omega arith) (omega arith))
 
--- ---- writing: what is left to put gives the output that is wanted
+-- ---- writing: the groups below `rest` stand in front
 
--- the groups below `rest` stand from `place` up to `at`
-abbrev pub Grouping : ℕ → ℕ → List ℕ → ℕ → ℕ → List ℕ → Type 0
-Grouping value place old rest at out =
-    (overlaid at (leb128 rest) out ≡ overlaid place (leb128 value) old) × (at + length (leb128 rest) ≡ place + length (leb128 value)) × (place ≤ at) × (at ≤ length out) × (length out ≡ length old) × (take place out ≡ take place old) × (rest < 2 ^ 64)
+abbrev pub Grouping : ℕ → List ℕ → ℕ → ℕ → List ℕ → Type 0
+Grouping value old rest k out =
+    (take k out ++ leb128 rest ≡ leb128 value) × (drop k out ≡ drop k old) × (k + length (leb128 rest) ≡ length (leb128 value)) × (length out ≡ length old) × (rest < 2 ^ 64)
 
-pub grouping-more : (value place : ℕ) (old : List ℕ) (rest at : ℕ) (out : List ℕ) → 128 ≤ rest → at < length out → Grouping value place old rest at out
-    → Grouping value place old (rest / 128) (at + 1) (slice_set out at (rest % 128 + 128))
-grouping-more value place old rest at out m h g =
-    let more = leb-more rest m g.6 in (
-      sym (overlaid-more at (rest % 128 + 128) (leb128 (rest / 128)) out h) ∙ ap (λ (bs : List ℕ). overlaid at bs out) (sym more) ∙ g.0,
-      omega (arith, ap length more, g.1),
-      omega (arith, g.2),
-      simp length-set (omega arith),
-      simp length-set g.4,
-      take-set-le place out at _ g.2 ∙ g.5,
-      omega (arith, g.6),
+-- one element further, the lists are still the same
+drop-more : (k : ℕ) (xs ys : List ℕ) → drop k xs ≡ drop k ys → drop (k + 1) xs ≡ drop (k + 1) ys
+drop-more k xs ys e = sym (drop-drop 1 k xs) ∙ ap (drop 1) e ∙ drop-drop 1 k ys
+
+pub grouping-more : (value : ℕ) (old : List ℕ) (rest k : ℕ) (out : List ℕ) → 128 ≤ rest → k < length out → Grouping value old rest k out
+    → Grouping value old (rest / 128) (k + 1) (slice_set out k (rest % 128 + 128))
+grouping-more value old rest k out m h g =
+    let more = leb-more rest m g.4 in (
+      ap (λ (bs : List ℕ). bs ++ leb128 (rest / 128)) (take_more_set out k (rest % 128 + 128) h)
+          ∙ append_assoc (take k out) ((rest % 128 + 128) ∷ []) (leb128 (rest / 128))
+          ∙ ap (λ (bs : List ℕ). take k out ++ bs) (sym more) ∙ g.0,
+      drop-set-lt (k + 1) out k (rest % 128 + 128) (omega arith) ∙ drop-more k out old g.1,
+      omega (arith, ap length more, g.2),
+      simp length-set g.3,
+      omega (arith, g.4),
     )
 
 -- the last group
-pub grouping-last : (value place : ℕ) (old : List ℕ) (rest at : ℕ) (out : List ℕ) → rest < 128 → at < length out → Grouping value place old rest at out
-    → (place + length (leb128 value) ≤ length old) × (at + 1 - place ≡ length (leb128 value)) × (slice_set out at rest ≡ overlaid place (leb128 value) old)
-grouping-last value place old rest at out s h g =
+pub grouping-last : (value : ℕ) (old : List ℕ) (rest k : ℕ) (out : List ℕ) → rest < 128 → k < length out → Grouping value old rest k out
+    → (length (leb128 value) ≤ length old) × (k + 1 ≡ length (leb128 value)) × (slice_set out k rest ≡ leb128 value ++ drop (k + 1) old)
+grouping-last value old rest k out s h g =
     let last = leb_small rest s in
     let long : length (leb128 rest) ≡ 1 = ap length last in (
-      omega (arith, long, g.1, g.4),
-      omega (arith, long, g.1),
-      sym (overlaid-one at rest out h) ∙ ap (λ (bs : List ℕ). overlaid at bs out) (sym last) ∙ g.0,
+      omega (arith, long, g.2, g.3),
+      omega (arith, long, g.2),
+      sym (overlaid-one k rest out h) ∙ sym (append_assoc (take k out) (rest ∷ []) (drop (k + 1) out))
+          ∙ ap₂ (λ (xs ys : List ℕ). xs ++ ys) (ap (λ (bs : List ℕ). take k out ++ bs) (sym last) ∙ g.0) (drop-more k out old g.1),
     )
 
 -- a group found no room
-pub grouping-none : (value place : ℕ) (old : List ℕ) (rest at : ℕ) (out : List ℕ) → length out ≤ at → Grouping value place old rest at out → length old < place + length (leb128 value)
-grouping-none value place old rest at out h g = omega (arith, form-some (leb128 rest) (leb-fewest rest g.6).form, g.1, g.4)
+pub grouping-none : (value : ℕ) (old : List ℕ) (rest k : ℕ) (out : List ℕ) → length out ≤ k → Grouping value old rest k out → length old < length (leb128 value)
+grouping-none value old rest k out h g = omega (arith, form-some (leb128 rest) (leb-fewest rest g.4).form, g.2, g.3)
 
--- ---- reading
+-- ---- reading: the place of the first byte without mark
 
--- one marked byte more
-pub front-more : (bs : List ℕ) (k : ℕ) → k < 10 → k < length bs → 128 ≤ slice_index bs k → front 10 bs ≡ onto (take k bs) k (front (10 - k) (drop k bs))
-    → front 10 bs ≡ onto (take (k + 1) bs) (k + 1) (front (10 - (k + 1)) (drop (k + 1) bs))
-front-more bs k h l m e =
-    let left : 10 - k ≡ suc (10 - (k + 1)) = omega arith in
-    let step : front (10 - k) (drop k bs) ≡ onto (slice_index bs k ∷ []) 1 (front (10 - (k + 1)) (drop (k + 1) bs)) =
-    rw (left, drop_more bs k 0 l, le-ltb (slice_index bs k) 128 m) refl in
-    e ∙ ap (onto (take k bs) k) step ∙ onto-onto (take k bs) (slice_index bs k ∷ []) k 1 _ ∙ ap (λ (xs : List ℕ). onto xs (k + 1) (front (10 - (k + 1)) (drop (k + 1) bs))) (sym (take_more bs k 0 l))
+abbrev pub unmarked : ℕ → Bool
+unmarked b = nat_lt b 128
 
--- the last byte
-pub front-last : (layer : ℕ) (bs : List ℕ) (k : ℕ) → k < 10 → k < length bs → slice_index bs k < 128 → front 10 bs ≡ onto (take k bs) k (front (10 - k) (drop k bs)) → Ok (k + 1) ≡ told layer (front 10 bs)
-front-last layer bs k h l s e =
-    let left : 10 - k ≡ suc (10 - (k + 1)) = omega arith in
-    let step : front (10 - k) (drop k bs) ≡ got (slice_index bs k ∷ []) 1 = rw (left, drop_more bs k 0 l, lt-ltb (slice_index bs k) 128 s) refl in
-    sym (ap (told layer) (e ∙ ap (onto (take k bs) k) step))
+-- what its place among the first ten bytes tells, where they are too few or not
+abbrev pub answer : ℕ → Bool → Option ℕ → Result ℕ Fault
+answer layer few (Some last) = Ok (last + 1)
+answer layer few None = cond few (Err (fault Short (layer + 0))) (Err (fault Bad (layer + 0)))
 
--- the input ends inside the form
-pub front-short : (layer : ℕ) (bs : List ℕ) (k : ℕ) → layer < 65536 → k < 10 → length bs ≤ k → front 10 bs ≡ onto (take k bs) k (front (10 - k) (drop k bs)) → Err (record { cause = Short; layer = layer }) ≡ told layer (front 10 bs)
-front-short layer bs k f h l e =
-    let left : 10 - k ≡ suc (10 - (k + 1)) = omega arith in
-    let step : front (10 - k) (drop k bs) ≡ short 0 = rw (left, drop_all k bs l) refl in
-    ap Err (found_here Short layer f) ∙ sym (ap (told layer) (e ∙ ap (onto (take k bs) k) step))
+fewer : (a b : ℕ) → nat_lt (suc a) (suc b) ≡ nat_lt a b
+fewer a b =
+    elim (cases_lt a b) [
+      | inl h ↦ lt-ltb (suc a) (suc b) (omega arith) ∙ sym (lt-ltb a b h)
+      | inr h ↦ le-ltb (suc a) (suc b) (omega arith) ∙ sym (le-ltb a b h)
+    ]
 
--- ten marked bytes
-pub front-bad : (layer : ℕ) (bs : List ℕ) (k : ℕ) → layer < 65536 → 10 ≤ k → front 10 bs ≡ onto (take k bs) k (front (10 - k) (drop k bs)) → Err (record { cause = Bad; layer = layer }) ≡ told layer (front 10 bs)
-front-bad layer bs k f h e =
-    let none : 10 - k ≡ 0 = omega arith in
-    let step : front (10 - k) (drop k bs) ≡ bad 0 = ap (λ n. front n (drop k bs)) none in
-    ap Err (found_here Bad layer f) ∙ sym (ap (told layer) (e ∙ ap (onto (take k bs) k) step))
+-- after i bytes xs
+front-told : (layer k i : ℕ) (xs bs : List ℕ) → told layer (onto xs i (front k bs)) ≡ answer layer (nat_lt (length bs) k) (position_from unmarked i (take k bs))
+front-told layer zero i xs bs = sym (ap (λ few. answer layer few None) (le-ltb (length bs) 0 (omega arith)))
+front-told layer (suc k) i xs [] = sym (ap (λ few. answer layer few None) (lt-ltb 0 (suc k) (omega arith)))
+front-told layer (suc k) i xs (b ∷ bs) =
+    elim (cases_lt b 128) [
+      | inl s ↦ rw (lt-ltb b 128 s) refl
+      | inr m ↦ rw (le-ltb b 128 m) (ap (told layer) (onto-onto xs (b ∷ []) i 1 (front k bs)) ∙ front-told layer k (i + 1) (xs ++ b ∷ []) bs ∙ ap (λ few. answer layer few (position_from unmarked (i + 1) (take k bs))) (sym (fewer (length bs) k)))
+    ]
+
+told-onto : (layer : ℕ) (p : Parsed (List ℕ)) → told layer (onto [] 0 p) ≡ told layer p
+told-onto layer (got form used) = ap Ok (omega arith)
+told-onto layer (short depth) = refl
+told-onto layer (bad depth) = refl
+
+pub front-found : (layer : ℕ) (bs : List ℕ) → told layer (front 10 bs) ≡ answer layer (nat_lt (length bs) 10) (position unmarked (take 10 bs))
+front-found layer bs =
+    sym (told-onto layer (front 10 bs)) ∙ front-told layer 10 0 [] bs ∙ ap (answer layer (nat_lt (length bs) 10)) (sym (position_from-zero unmarked (take 10 bs)))
 
 -- a form's size tells its bytes
 pub front-got : (layer : ℕ) (bs : List ℕ) (size : ℕ) → Ok size ≡ told layer (front 10 bs) → (front 10 bs ≡ got (take size bs) size) × Fronted 10 bs (got (take size bs) size)
@@ -149,8 +158,8 @@ form-large w bs size l f e large =
 
 -- ---- what reading one value answers
 
-pub one-bad : (layer w : ℕ) (bs : List ℕ) (size : ℕ) → layer < 65536 → front 10 bs ≡ got (take size bs) size → 2 ^ w ≤ total 128 (take size bs) → Err (record { cause = Bad; layer = layer }) ≡ taken layer (short_one w bs)
-one-bad layer w bs size f e h = ap Err (found_here Bad layer f) ∙ rw (e, le-ltb (total 128 (take size bs)) (2 ^ w) h) refl
+pub one-bad : (layer w : ℕ) (bs : List ℕ) (size : ℕ) → front 10 bs ≡ got (take size bs) size → 2 ^ w ≤ total 128 (take size bs) → Err (fault Bad layer) ≡ taken layer (short_one w bs)
+one-bad layer w bs size e h = ap (λ n. Err (fault Bad n)) (sym (add-zero layer)) ∙ rw (e, le-ltb (total 128 (take size bs)) (2 ^ w) h) refl
 
 pub one-got : (layer w : ℕ) (bs : List ℕ) (size number : ℕ) → front 10 bs ≡ got (take size bs) size → number ≡ total 128 (take size bs) → number < 2 ^ w → Ok (record { value = number; size = size }) ≡ taken layer (short_one w bs)
 one-got layer w bs size number e is h = rw (e, ← is, lt-ltb number (2 ^ w) h) refl

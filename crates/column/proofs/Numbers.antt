@@ -1,10 +1,12 @@
 -- Numbers as digits, the lowest first.
-use Rattle.std.specs.Prelude.{◌≡◌, ℕ, zero, suc, ◌+◌, ◌-◌, ◌*◌, ◌/◌, ◌%◌, ◌^◌, ◌<◌, ◌≤◌, List, [], ◌∷◌, length, take, drop, slice_index, slice_index_or, slice_set}
-use Rattle.std.proofs.Common.{sym, ◌∙◌, ap, mul_comm, mul-le-mul_left, arith}
-use Rattle.std.proofs.lemmas.List.{drop_more, get_or-take, get_or-drop, length-take, length-drop}
-use Rattle.column.specs.Interface.{overlaid}
-use Rattle.column.specs.Digits.{low, total}
-use Rattle.column.proofs.Overlaid.{overlaid-more}
+use Rattle.std.specs.Prelude.{◌≡◌, ℕ, zero, suc, ◌+◌, ◌*◌, ◌%◌, ◌^◌, ◌<◌, ◌≤◌, List, [], ◌∷◌, ◌++◌, length, reverse, slice_index, bit_and, bit_or}
+use Rattle.std.proofs.Common.{sym, ◌∙◌, ap, ap₂, arith}
+use Rattle.std.specs.List.{fold}
+use Rattle.std.specs.Int.{w64, to_le_bytes, from_le_bytes}
+use Rattle.std.proofs.lemmas.List.{reverse-append}
+use Rattle.std.proofs.lemmas.List.Sums.{fold-append}
+use Rattle.std.proofs.lemmas.Nat.{le_bytes_8, from_le_bytes-to_le_bytes_8, or_shifted, and_mask}
+use Rattle.column.specs.Digits.{total}
 
 pub total-small : (k : ℕ) (bs : List ℕ) → length bs ≤ k → total 256 bs < 256 ^ k
 total-small zero [] h = omega arith
@@ -12,35 +14,31 @@ total-small zero (b ∷ bs) h = absurd (omega arith)
 total-small (suc k) [] h = omega (arith, total-small k [] (omega arith))
 total-small (suc k) (b ∷ bs) h = omega (arith, total-small k bs (omega arith))
 
--- the next byte of those to be put
-pub low-more : (size place k rest : ℕ) (out all : List ℕ) → k < size → place + size ≤ length out → overlaid (place + k) (low 256 (size - k) rest) out ≡ all
-    → overlaid (place + (k + 1)) (low 256 (size - (k + 1)) (rest / 256)) (slice_set out (place + k) (rest % 256)) ≡ all
-low-more size place k rest out all h room e =
-    let left : size - k ≡ suc (size - (k + 1)) = omega arith in
-    let there : place + (k + 1) ≡ place + k + 1 = omega arith in
-    ap (λ p. overlaid p (low 256 (size - (k + 1)) (rest / 256)) (slice_set out (place + k) (rest % 256))) there
-    ∙ sym (overlaid-more (place + k) (rest % 256) (low 256 (size - (k + 1)) (rest / 256)) out (omega arith))
-    ∙ ap (λ (n : ℕ). overlaid (place + k) (low 256 n rest) out) (sym left) ∙ e
+-- what follows a number's digits is worth nothing if it is 0
+pub total-padded : (xs zs : List ℕ) → total 256 zs ≡ 0 → total 256 (xs ++ zs) ≡ total 256 xs
+total-padded [] zs h = h
+total-padded (x ∷ xs) zs h = ap (λ n. x % 256 + 256 * n) (total-padded xs zs h)
 
--- a number by the digit at a place and those above it
-pub total-at : (base : ℕ) (bs : List ℕ) (k : ℕ) → k < length bs → total base (drop k bs) ≡ slice_index bs k % base + base * total base (drop (k + 1) bs)
-total-at base bs k h = ap (total base) (drop_more bs k 0 h)
+-- eight bytes, as std reads them
+total-whole : (n : ℕ) → total 256 (to_le_bytes w64 n) ≡ from_le_bytes w64 (to_le_bytes w64 n)
+total-whole n = omega arith
 
--- the digits from a place on write no more than all of them
-pub total-part : (base : ℕ) → 0 < base → (k : ℕ) (bs : List ℕ) → total base (drop k bs) ≤ total base bs
-total-part base p zero bs = omega arith
-total-part base p (suc k) [] = omega arith
-total-part base p (suc k) (b ∷ bs) = omega (arith, total-part base p k bs, mul-le-mul_left (total base bs) p)
+pub total-eight : (bs : List ℕ) (n : ℕ) → length bs ≡ 8 → ((i : ℕ) → slice_index bs i < 256) → n < 2 ^ 64 → n ≡ from_le_bytes w64 bs → n ≡ total 256 bs
+total-eight bs n l small fits is =
+    sym (from_le_bytes-to_le_bytes_8 n fits) ∙ sym (total-whole n) ∙ ap (total 256) (le_bytes_8 bs n l small is)
 
--- the digits of a part of the input, from the next one on
-pub number_more : (base size : ℕ) (input : List ℕ) (place k number : ℕ) → place + size ≤ length input → 0 < k → k ≤ size
-    → number ≡ total base (drop k (take size (drop place input)))
-    → number * base + slice_index input (place + (k - 1)) % base ≡ total base (drop (k - 1) (take size (drop place input)))
-number_more base size input place k number room p le e =
-    let bs : List ℕ = take size (drop place input) in
-    let long : length bs ≡ size = length-take size (drop place input) ∙ omega (arith, length-drop place input) in
-    let digit : slice_index_or bs (k - 1) 0 ≡ slice_index_or input (place + (k - 1)) 0 = get_or-take size (drop place input) (k - 1) 0 (omega arith) ∙ get_or-drop place input (k - 1) 0 in
-    let next : k - 1 + 1 ≡ k = omega arith in
-    let whole : total base (drop (k - 1) bs) ≡ slice_index input (place + (k - 1)) % base + base * number =
-    total-at base bs (k - 1) (omega (arith, long)) ∙ ap (λ d. d % base + base * total base (drop (k - 1 + 1) bs)) digit ∙ ap (λ n. slice_index input (place + (k - 1)) % base + base * total base (drop n bs)) next ∙ ap (λ t. slice_index input (place + (k - 1)) % base + base * t) (sym e) in
-    omega (arith, whole, mul_comm number base)
+-- seven bits more
+joined : (n b : ℕ) → bit_or (n % 2 ^ 64 * 2 ^ 7 % 2 ^ 64) (bit_and b 127) ≡ (b % 128 + 128 * n) % 2 ^ 64
+joined n b =
+    let low : bit_and b 127 ≡ b % 128 = and_mask b 7 in
+    let high : n % 2 ^ 64 * 2 ^ 7 % 2 ^ 64 ≡ n % 2 ^ 57 * 2 ^ 7 = omega arith in
+    ap₂ bit_or high low ∙ or_shifted (n % 2 ^ 57) 7 (b % 128) (omega arith) ∙ omega arith
+
+-- the bytes from the last to the first, seven bits of each
+pub total-folded : (bs : List ℕ) → fold (λ n b. bit_or (n * 2 ^ 7 % 2 ^ 64) (bit_and b 127)) 0 (reverse bs) ≡ total 128 bs % 2 ^ 64
+total-folded [] = omega arith
+total-folded (b ∷ bs) =
+    ap (fold (λ n b. bit_or (n * 2 ^ 7 % 2 ^ 64) (bit_and b 127)) 0) (reverse-append (b ∷ []) bs)
+    ∙ fold-append (λ n b. bit_or (n * 2 ^ 7 % 2 ^ 64) (bit_and b 127)) 0 (reverse bs) (b ∷ [])
+    ∙ ap (λ n. bit_or (n * 2 ^ 7 % 2 ^ 64) (bit_and b 127)) (total-folded bs)
+    ∙ joined (total 128 bs) b

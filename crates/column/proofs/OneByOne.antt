@@ -1,18 +1,19 @@
 -- Kinds that put one value after another: the steps of both loops.
-use Rattle.std.specs.Prelude.{◌≡◌, ℕ, suc, ◌+◌, ◌-◌, ◌<◌, ◌≤◌, true, false, ◌&&◌, List, [], ◌∷◌, ◌++◌, length, take, drop, Ok, Err, Result, nat_le, slice_index, slice_set, refl}
+use Rattle.std.specs.Prelude.{◌≡◌, ℕ, suc, ◌+◌, ◌-◌, ◌<◌, ◌≤◌, Bool, true, false, cond, List, [], ◌∷◌, ◌++◌, length, take, drop, Option, Some, None, IfSome, Ok, Err, Result, nat_le, slice_index, slice_set, refl}
+use borrow.Rule.Slice.PartMut.{put_mid}
 use Rattle.std.proofs.Common.{sym, ◌∙◌, ap, ap₂, subst, add_assoc, add-zero, arith}
 use Rattle.std.specs.List.{flat_map}
-use Rattle.std.proofs.lemmas.List.{append_assoc, append-nil, length-append, drop-drop, at_drop_more, at_drop_all, take_more_set, take-take, length-drop, length-set, take_all}
-use Rattle.std.proofs.lemmas.Bool.{le-leb, lt-leb}
+use Rattle.std.proofs.lemmas.List.{append_assoc, append-nil, length-append, drop-drop, at_drop_more, take_more_set, length-drop, length-set, take_all, drop_all}
+use Rattle.std.proofs.lemmas.Bool.{le-leb, leb-true}
 use Rattle.std.proofs.ByRecursion.{All-drop, All-from_get_or}
-use Rattle.column.specs.declared.fault.Cause.TheVariants.{Room, Short, Bad}
+use Rattle.column.specs.declared.fault.Cause.TheVariants.{Short, Bad}
 use Rattle.column.specs.declared.fault.Fault.{Fault}
 use Rattle.column.specs.declared.coded.Taken.{Taken}
-use Rattle.column.specs.Widths.{listed, below, Bytes}
+use Rattle.column.specs.Widths.{listed, Bytes}
 use Rattle.column.specs.Parsed.{Parsed, got, short, bad, fault, and_then, told, values_of}
-use Rattle.column.specs.Interface.{overlaid, writing, Written, reading}
+use Rattle.column.specs.Interface.{overlaid, reading}
 use Rattle.column.specs.Coded.{onto, each, coded, taken, Fitting, Coding}
-use Rattle.column.proofs.Overlaid.{overlaid-nil, overlaid-append, length-overlaid, take-overlaid}
+use Rattle.column.proofs.Overlaid.{overlaid-append, length-overlaid, take-overlaid}
 
 -- ---- writing
 
@@ -21,45 +22,41 @@ abbrev pub Putting : (ℕ → List ℕ) → List ℕ → ℕ → List ℕ → �
 Putting code vs place old i at out =
     (at + length (flat_map code (drop i vs)) ≡ place + length (flat_map code vs)) × (overlaid at (flat_map code (drop i vs)) out ≡ overlaid place (flat_map code vs) old) × (place ≤ at) × (at ≤ length out) × (length out ≡ length old) × (take place out ≡ take place old)
 
--- the next value's code was put
-pub putting-more : (code : ℕ → List ℕ) (vs : List ℕ) (place : ℕ) (old : List ℕ) (i at : ℕ) (out next : List ℕ) → i < length vs → Putting code vs place old i at out
-    → at + length (code (slice_index vs i)) ≤ length out → next ≡ overlaid at (code (slice_index vs i)) out
-    → Putting code vs place old (i + 1) (at + length (code (slice_index vs i))) next
-putting-more code vs place old i at out next h p room e =
-    let here : flat_map code (drop i vs) ≡ code (slice_index vs i) ++ flat_map code (drop (i + 1) vs) = at_drop_more (flat_map code) vs i 0 h in
-    let long : length (flat_map code (drop i vs)) ≡ length (code (slice_index vs i)) + length (flat_map code (drop (i + 1) vs)) = ap length here ∙ length-append (code (slice_index vs i)) _ in
-    let size : length next ≡ length out = ap length e ∙ length-overlaid at _ out room in (
-      omega (arith, long, p.0),
-      ap (overlaid (at + length (code (slice_index vs i))) (flat_map code (drop (i + 1) vs))) e ∙ sym (overlaid-append at (code (slice_index vs i)) (flat_map code (drop (i + 1) vs)) out room) ∙ ap (λ (xs : List ℕ). overlaid at xs out) (sym here) ∙ p.1,
+-- a part from a place to the end is what stands behind the place
+pub rest-whole : (at : ℕ) (xs : List ℕ) → take (length xs - at) (drop at xs) ≡ drop at xs
+rest-whole at xs = take_all (length xs - at) (drop at xs) (omega (arith, length-drop at xs))
+
+-- where a test chose whether there is an answer and there is one, the test held
+given : {X : Type 0} (b : Bool) (x y : X) → Some y ≡ cond b (Some x) None → (b ≡ true) × (y ≡ x)
+given true x y h = (refl, cc)
+given false x y h = let z : ◌≡◌ {A = ℕ} 0 1 = cc in absurd (omega arith)
+
+-- the next value's code was put into the part from a place on
+pub putting-more : (code : ℕ → List ℕ) (vs : List ℕ) (place : ℕ) (old : List ℕ) (i at : ℕ) (out next : List ℕ) (o : Option ℕ) (size : ℕ) → i < length vs → Putting code vs place old i at out
+    → o ≡ cond (nat_le (length (code (slice_index vs i))) (length (take (length out - at) (drop at out)))) (Some (length (code (slice_index vs i)))) None
+    → IfSome o (λ n. next ≡ code (slice_index vs i) ++ drop n (take (length out - at) (drop at out))) → o ≡ Some size
+    → Putting code vs place old (i + 1) (at + size) (put_mid at (length out - at) out next)
+putting-more code vs place old i at out next o size h p answer bytes is =
+    let v : ℕ = slice_index vs i in
+    let part : take (length out - at) (drop at out) ≡ drop at out = rest-whole at out in
+    let fits = given (nat_le (length (code v)) (length (take (length out - at) (drop at out)))) (length (code v)) size (sym is ∙ answer) in
+    let room : at + size ≤ length out = omega (arith, leb-true (length (code v)) (length (take (length out - at) (drop at out))) fits.0, fits.1, ap length part, length-drop at out, p.3) in
+    let put : next ≡ code v ++ drop size (take (length out - at) (drop at out)) = subst (λ (r : Option ℕ). IfSome r (λ n. next ≡ code v ++ drop n (take (length out - at) (drop at out)))) is bytes in
+    let behind : drop size (take (length out - at) (drop at out)) ≡ drop (at + size) out = ap (drop size) part ∙ drop-drop size at out in
+    let end : drop (length out - at) (drop at out) ≡ [] = drop_all (length out - at) (drop at out) (omega (arith, length-drop at out)) in
+    let e : put_mid at (length out - at) out next ≡ overlaid at (code v) out =
+    ap₂ (λ (xs ys : List ℕ). take at out ++ (xs ++ ys)) (put ∙ ap (λ (xs : List ℕ). code v ++ xs) behind) end
+    ∙ ap (λ (xs : List ℕ). take at out ++ xs) (append-nil (code v ++ drop (at + size) out))
+    ∙ ap (λ (n : ℕ). take at out ++ (code v ++ drop (at + n) out)) fits.1 in
+    let here : flat_map code (drop i vs) ≡ code v ++ flat_map code (drop (i + 1) vs) = at_drop_more (flat_map code) vs i 0 h in
+    let long : length (flat_map code (drop i vs)) ≡ length (code v) + length (flat_map code (drop (i + 1) vs)) = ap length here ∙ length-append (code v) _ in
+    let same : length (put_mid at (length out - at) out next) ≡ length out = ap length e ∙ length-overlaid at _ out (omega (arith, room, fits.1)) in (
+      omega (arith, long, p.0, fits.1),
+      ap₂ (λ (n : ℕ) (xs : List ℕ). overlaid (at + n) (flat_map code (drop (i + 1) vs)) xs) fits.1 e ∙ sym (overlaid-append at (code v) (flat_map code (drop (i + 1) vs)) out (omega (arith, room, fits.1))) ∙ ap (λ (xs : List ℕ). overlaid at xs out) (sym here) ∙ p.1,
       omega (arith, p.2),
-      omega (arith, size),
-      size ∙ p.4,
+      omega (arith, same, room),
+      same ∙ p.4,
       ap (take place) e ∙ take-overlaid place at _ out p.2 p.3 ∙ p.5,
-    )
-
--- all codes were put
-pub putting-all : (code : ℕ → ℕ → List ℕ) (one : ℕ → List ℕ → Parsed ℕ) (layer w : ℕ) (vs : List ℕ) (place : ℕ) (old : List ℕ) (i at : ℕ) (out : List ℕ) → length vs ≤ i
-    → (listed w && below w vs) ≡ true → Putting (code w) vs place old i at out
-    → (Ok (at - place) ≡ writing (coded code one) layer w vs (length old) place) × (out ≡ overlaid place (flat_map (code w) vs) old)
-putting-all code one layer w vs place old i at out h t p =
-    let none : flat_map (code w) (drop i vs) ≡ [] = at_drop_all (flat_map (code w)) vs i h in
-    let end : at ≡ place + length (flat_map (code w) vs) = omega (arith, p.0, ap length none) in
-    let room : nat_le (place + length (flat_map (code w) vs)) (length old) ≡ true = le-leb (place + length (flat_map (code w) vs)) (length old) (omega (arith, p.3, p.4, end)) in (
-      rw (t, room) (ap Ok (omega (arith, end))),
-      sym (overlaid-nil at out) ∙ ap (λ (xs : List ℕ). overlaid at xs out) (sym none) ∙ p.1,
-    )
-
--- the next value's code found no room
-pub putting-none : (code : ℕ → ℕ → List ℕ) (one : ℕ → List ℕ → Parsed ℕ) (layer w : ℕ) (vs : List ℕ) (place : ℕ) (old : List ℕ) (i at : ℕ) (out : List ℕ) → i < length vs
-    → (listed w && below w vs) ≡ true → Putting (code w) vs place old i at out → length out < at + length (code w (slice_index vs i))
-    → (r : Result ℕ Fault) (next : List ℕ) → r ≡ Err (fault Room layer) → take at next ≡ take at out
-    → (r ≡ writing (coded code one) layer w vs (length old) place) × Written r place (flat_map (code w) vs) old next
-putting-none code one layer w vs place old i at out h t p full r next e same =
-    let here : flat_map (code w) (drop i vs) ≡ code w (slice_index vs i) ++ flat_map (code w) (drop (i + 1) vs) = at_drop_more (flat_map (code w)) vs i 0 h in
-    let long : length (flat_map (code w) (drop i vs)) ≡ length (code w (slice_index vs i)) + length (flat_map (code w) (drop (i + 1) vs)) = ap length here ∙ length-append (code w (slice_index vs i)) _ in
-    let room : nat_le (place + length (flat_map (code w) vs)) (length old) ≡ false = lt-leb (place + length (flat_map (code w) vs)) (length old) (omega (arith, p.0, p.4, long)) in (
-      e ∙ rw (t, room, add-zero layer) refl,
-      rw e (sym (take-take place at next p.2) ∙ ap (take place) same ∙ take-take place at out p.2 ∙ p.5),
     )
 
 -- ---- reading

@@ -30,7 +30,3 @@ overlaid-append p xs ys old h =
 -- one element
 pub overlaid-one : (p b : ℕ) (old : List ℕ) → p < length old → overlaid p (b ∷ []) old ≡ slice_set old p b
 overlaid-one p b old h = rw (set_split old p b h, add-one)
-
--- an element and those after it
-pub overlaid-more : (p b : ℕ) (xs old : List ℕ) → p < length old → overlaid p (b ∷ xs) old ≡ overlaid (p + 1) xs (slice_set old p b)
-overlaid-more p b xs old h = overlaid-append p (b ∷ []) xs old (omega arith) ∙ ap (overlaid (p + 1) xs) (overlaid-one p b old h)

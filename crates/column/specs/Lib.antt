@@ -1,5 +1,6 @@
 pub mod Widths
 pub mod Parsed
+pub mod Words
 pub mod Meaning
 pub mod Interface
 pub mod Coded

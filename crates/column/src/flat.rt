@@ -2,14 +2,11 @@
 
 ghost use Rattle.std.specs.Prelude.{◌≡◌};
 ghost use Rattle.column.specs.Digits.{low};
-ghost use Rattle.column.specs.Flat.{size, flat_one, flat};
+ghost use Rattle.column.specs.Flat.{size, flat_one};
 ghost use Rattle.column.specs.Laws.Flat.{flat-coding};
-ghost use Rattle.column.specs.Laws.Coded.{coded-lawful};
 
-use crate::coded::{Code, Taken, read_each, write_each};
-use crate::digits::{number_at, put_low};
+use crate::coded::{Code, Taken};
 use crate::fault::{Cause, Fault};
-use crate::interface::Column;
 
 /// One byte, 0 or 1, for width 1; else width / 8 bytes, low byte first.
 #[derive(Clone, Copy)]
@@ -29,68 +26,26 @@ impl Code for Flat {
 
     ghost coding = { λ form. flat-coding };
 
-    fn put(
-        &self,
-        layer: u16,
-        width: u32,
-        value: u64,
-        output: &mut [u8],
-        place: usize,
-    ) -> Result<usize, Fault> {
+    fn put(&self, width: u32, value: u64, room: &mut [u8]) -> Option<usize> {
         let size = size_of(width);
-        if size > output.len() - place {
-            return Err(Fault {
-                cause: Cause::Room,
-                layer,
-            });
+        if size > room.len() {
+            return None;
         }
-        put_low(value, size, output, place);
-        Ok(size)
+        room[..size].copy_from_slice(&value.to_le_bytes()[..size]);
+        Some(size)
     }
 
-    fn take(&self, layer: u16, width: u32, input: &[u8], place: usize) -> Result<Taken, Fault> {
+    fn take(&self, layer: u16, width: u32, bytes: &[u8]) -> Result<Taken, Fault> {
         let size = size_of(width);
-        if size > input.len() - place {
-            return Err(Fault {
-                cause: Cause::Short,
-                layer,
-            });
+        if size > bytes.len() {
+            return Err(Cause::Short.at(layer));
         }
-        let value = number_at(256, size, input, place);
+        let mut whole = [0; 8];
+        whole[..size].copy_from_slice(&bytes[..size]);
+        let value = u64::from_le_bytes(whole);
         if width == 1 && value > 1 {
-            return Err(Fault {
-                cause: Cause::Bad,
-                layer,
-            });
+            return Err(Cause::Bad.at(layer));
         }
         Ok(Taken { value, size })
-    }
-}
-
-impl Column for Flat {
-    ghost meaning = { λ _. flat };
-
-    ghost lawful = { λ kind. coded-lawful flat-coding };
-
-    fn write(
-        &self,
-        layer: u16,
-        width: u32,
-        values: &mut [u64],
-        output: &mut [u8],
-        place: usize,
-    ) -> Result<usize, Fault> {
-        write_each(self, layer, width, values, output, place)
-    }
-
-    fn read(
-        &self,
-        layer: u16,
-        width: u32,
-        values: &mut [u64],
-        input: &[u8],
-        place: usize,
-    ) -> Result<usize, Fault> {
-        read_each(self, layer, width, values, input, place)
     }
 }

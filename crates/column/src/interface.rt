@@ -10,6 +10,8 @@ use crate::fault::Fault;
 /// A column kind: it gives each list of values of a width its bytes, and reads them back.
 ///
 /// A width is a number of bits: 1, 8, 16, 32 or 64. No call changes what a kind means.
+// Stays: a place past the end has an answer of its own, which a slice from the place on could not give.
+// Stays: a width is a number, since any that is not listed is answered `Bad`; a type of the listed ones would ask more of callers.
 pub trait Column {
     ghost meaning: { Self → Meaning };
 

@@ -2,7 +2,6 @@
 #![tactic(auto)]
 
 mod coded;
-mod digits;
 pub mod fault;
 pub mod flat;
 pub mod interface;

@@ -1,15 +1,13 @@
 //! The short kind: unsigned LEB128, so that small values take few bytes.
 
-ghost use Rattle.std.specs.Prelude.{◌≡◌, ◌≤◌, length, drop};
+ghost use Rattle.std.specs.Prelude.{◌≡◌, ◌^◌, ◌<◌, length};
 ghost use Rattle.column.specs.Parsed.{told};
-ghost use Rattle.column.specs.Short.{Fewest, leb128, front, short_one, short_kind};
+ghost use Rattle.column.specs.Digits.{total};
+ghost use Rattle.column.specs.Short.{Fewest, leb128, front, short_one};
 ghost use Rattle.column.specs.Laws.Short.{short-coding};
-ghost use Rattle.column.specs.Laws.Coded.{coded-lawful};
 
-use crate::coded::{Code, Taken, read_each, write_each};
-use crate::digits::number_at;
+use crate::coded::{Code, Taken};
 use crate::fault::{Cause, Fault};
-use crate::interface::Column;
 use crate::width::greatest;
 
 /// Unsigned LEB128 (DWARF 5, 7.6) in the fewest bytes. Reading also takes padded forms of at most ten bytes.
@@ -19,11 +17,12 @@ pub struct Short;
 /// A form has at most this many bytes.
 const LONGEST: usize = 10;
 
-/// The last of so many groups of a value of 64 bits is at most this.
+/// The tenth group of a value of 64 bits is at most this.
 const TENTH: u8 = 1;
 
 impl Short {
     /// The number of bytes of a value: none of its forms has fewer.
+    // Stays: a loop over the value's groups of seven bits, as the definition has them; a formula over the leading zeros is no plainer.
     pub fn size(value: u64) -> usize
         ensures size { result ≡ length (leb128 value) }
         ensures fewest { Fewest value (leb128 value) }
@@ -38,26 +37,25 @@ impl Short {
     }
 }
 
-/// The number of bytes of the form at a place of the input.
-fn form_size(layer: u16, input: &[u8], place: usize) -> Result<usize, Fault>
-    requires { place ≤ length input.now }
-    ensures { result ≡ told layer (front 10 (drop place input.now)) }
+/// The number of bytes of the form at the beginning of these bytes.
+fn form_size(layer: u16, bytes: &[u8]) -> Result<usize, Fault>
+    ensures { result ≡ told layer (front 10 bytes.now) }
 {
-    for k in 0..LONGEST {
-        if k >= input.len() - place {
-            return Err(Fault {
-                cause: Cause::Short,
-                layer,
-            });
-        }
-        if input[place + k] < 128 {
-            return Ok(k + 1);
-        }
+    match bytes.iter().take(LONGEST).position(|byte| *byte < 128) {
+        Some(last) => Ok(last + 1),
+        None if bytes.len() < LONGEST => Err(Cause::Short.at(layer)),
+        None => Err(Cause::Bad.at(layer)),
     }
-    Err(Fault {
-        cause: Cause::Bad,
-        layer,
-    })
+}
+
+/// The number that a form writes, which fits 64 bits: seven bits in each byte, the lowest first.
+fn number_of(form: &[u8]) -> u64
+    requires { total 128 form.now < 2 ^ 64 }
+    ensures { result ≡ total 128 form.now }
+{
+    form.iter()
+        .rev()
+        .fold(0, |number, byte| (number << 7) | u64::from(*byte & 0x7f))
 }
 
 impl Code for Short {
@@ -67,81 +65,30 @@ impl Code for Short {
 
     ghost coding = { λ form. short-coding };
 
-    fn put(
-        &self,
-        layer: u16,
-        _width: u32,
-        value: u64,
-        output: &mut [u8],
-        place: usize,
-    ) -> Result<usize, Fault> {
+    fn put(&self, _width: u32, value: u64, room: &mut [u8]) -> Option<usize> {
         let mut rest = value;
-        let mut at = place;
-        while rest >= 128 {
-            if at >= output.len() {
-                return Err(Fault {
-                    cause: Cause::Room,
-                    layer,
-                });
+        for (k, byte) in room.iter_mut().enumerate() {
+            let is_last = rest < 128;
+            if is_last {
+                *byte = rest as u8;
+                return Some(k + 1);
             }
-            output[at] = (rest % 128 + 128) as u8;
+            *byte = (rest % 128 + 128) as u8;
             rest /= 128;
-            at += 1;
         }
-        if at >= output.len() {
-            return Err(Fault {
-                cause: Cause::Room,
-                layer,
-            });
-        }
-        output[at] = rest as u8;
-        Ok(at + 1 - place)
+        None
     }
 
-    fn take(&self, layer: u16, width: u32, input: &[u8], place: usize) -> Result<Taken, Fault> {
+    fn take(&self, layer: u16, width: u32, bytes: &[u8]) -> Result<Taken, Fault> {
         let top = greatest(layer, width)?;
-        let size = form_size(layer, input, place)?;
-        if size == LONGEST && input[place + 9] > TENTH {
-            return Err(Fault {
-                cause: Cause::Bad,
-                layer,
-            });
+        let size = form_size(layer, bytes)?;
+        if size == LONGEST && bytes[9] > TENTH {
+            return Err(Cause::Bad.at(layer));
         }
-        let value = number_at(128, size, input, place);
+        let value = number_of(&bytes[..size]);
         if value > top {
-            return Err(Fault {
-                cause: Cause::Bad,
-                layer,
-            });
+            return Err(Cause::Bad.at(layer));
         }
         Ok(Taken { value, size })
-    }
-}
-
-impl Column for Short {
-    ghost meaning = { λ _. short_kind };
-
-    ghost lawful = { λ kind. coded-lawful short-coding };
-
-    fn write(
-        &self,
-        layer: u16,
-        width: u32,
-        values: &mut [u64],
-        output: &mut [u8],
-        place: usize,
-    ) -> Result<usize, Fault> {
-        write_each(self, layer, width, values, output, place)
-    }
-
-    fn read(
-        &self,
-        layer: u16,
-        width: u32,
-        values: &mut [u64],
-        input: &[u8],
-        place: usize,
-    ) -> Result<usize, Fault> {
-        read_each(self, layer, width, values, input, place)
     }
 }

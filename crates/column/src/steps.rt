@@ -53,6 +53,7 @@ impl<C: Column> Column for Steps<C> {
 }
 
 /// Takes from each value its predecessor.
+// Stays: two loops that keep another number from turn to turn; one loop would take a closure with that number in it, and say no more.
 fn subtract(width: u32, top: u64, values: &mut [u64])
     requires width { width ≤ 64 }
     requires top { top ≡ 2 ^ width - 1 }

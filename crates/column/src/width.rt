@@ -17,10 +17,7 @@ pub fn greatest(layer: u16, width: u32) -> Result<u64, Fault>
         16 => Ok(0xffff),
         32 => Ok(0xffff_ffff),
         64 => Ok(0xffff_ffff_ffff_ffff),
-        _ => Err(Fault {
-            cause: Cause::Bad,
-            layer,
-        }),
+        _ => Err(Cause::Bad.at(layer)),
     }
 }
 
@@ -29,13 +26,9 @@ pub fn admitted(layer: u16, width: u32, values: &[u64]) -> Result<u64, Fault>
     ensures { result ≡ (if listed width && below width values.now then Ok (2 ^ width - 1) else Err (fault Bad layer)) }
 {
     let top = greatest(layer, width)?;
-    for value in values {
-        if *value > top {
-            return Err(Fault {
-                cause: Cause::Bad,
-                layer,
-            });
-        }
+    if values.iter().all(|value| *value <= top) {
+        Ok(top)
+    } else {
+        Err(Cause::Bad.at(layer))
     }
-    Ok(top)
 }

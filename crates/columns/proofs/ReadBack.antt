@@ -1,5 +1,5 @@
 -- A buffer that is cut to an image, and what reading finds in an image alone.
-use Rattle.std.proofs.Common.{◌≡◌, ℕ, ◌+◌, true, ◌&&◌, leb, List, [], ◌++◌, length, take, Ok, sym, ap, ◌∙◌, subst, append-nil, arith}
+use Rattle.std.proofs.Common.{◌≡◌, ℕ, ◌+◌, true, ◌&&◌, leb, List, [], ◌++◌, length, take, Ok, sym, ap, ◌∙◌, append-nil, arith}
 use Rattle.std.proofs.lemmas.List.{take_at}
 use Rattle.std.proofs.lemmas.Bool.{le-leb, and_parts}
 use Rattle.column.specs.Widths.{listed, below}
@@ -12,21 +12,13 @@ use Rattle.column.proofs.Widths.{below-decides}
 module _ (kind : Meaning) (w : ℕ) where
   -- a vector of len bytes into whose front the image of a copy of these values was written, and that is then cut after it
   pub packed : (vs items copy old new rest cut : List ℕ) (len used : ℕ) → copy ≡ items → items ≡ vs → length new ≡ length old → length old ≡ len
-      → Ok used ≡ writing kind 0 w copy (length old) 0 → new ≡ overlaid 0 (kind.image w copy) old → cut ≡ take used (take len (new ++ rest))
-      → ((listed w && below w vs) ≡ true) × (cut ≡ kind.image w vs)
+      → Ok used ≡ writing kind 0 w copy (length old) 0 → new ≡ overlaid 0 (kind.image w copy) old → cut ≡ take used (take len (new ++ rest)) → cut ≡ kind.image w vs
   packed vs items copy old new rest cut len used taken same kept long answer bytes cuts =
       let image : List ℕ = kind.image w copy in
       let ok = chose-both (listed w && below w copy) (leb (0 + length image) (length old)) (length image) used _ _ answer in
       let whole : take used (take len (new ++ rest)) ≡ take used new = ap (take used) (take_at new rest len (kept ∙ long)) in
       let front : take used new ≡ image = ap (take used) bytes ∙ take_at image _ used (sym ok.2) in
-      let copied : copy ≡ vs = taken ∙ same in
-      (subst (λ (l : List ℕ). (listed w && below w l) ≡ true) copied ok.0, cuts ∙ whole ∙ front ∙ ap (kind.image w) copied)
-
-  -- a vector of len values into which so many were read
-  pub unpacked : (values new rest bytes : List ℕ) (len count : ℕ) → length new ≡ length values → length values ≡ len → len ≡ count → new ≡ values_of (reading kind w (length values) bytes 0)
-      → take len (new ++ rest) ≡ values_of (reading kind w count bytes 0)
-  unpacked values new rest bytes len count kept long many found =
-      take_at new rest len (kept ∙ long) ∙ found ∙ ap (λ (n : ℕ). values_of (reading kind w n bytes 0)) (long ∙ many)
+      cuts ∙ whole ∙ front ∙ ap (kind.image w) (taken ∙ same)
 
   -- an image of values that fit is read as those values
   pub read-image : Lawful kind → (vs bytes : List ℕ) → (listed w && below w vs) ≡ true → bytes ≡ kind.image w vs → values_of (reading kind w (length vs) bytes 0) ≡ vs
@@ -37,9 +29,3 @@ module _ (kind : Meaning) (w : ℕ) where
       ap (kind.parse w (length vs)) (e ∙ sym (append-nil (kind.image w vs))) ∙ law.reads w vs [] parts.0 ((below-decides w vs).0 parts.1) in
       let all : reading kind w (length vs) bytes 0 ≡ got vs (length (kind.image w vs)) = rw within alone in
       ap values_of all
-
-  -- values that were packed from a slice, and then read from a slice of the bytes
-  pub there_and_back : Lawful kind → (vs slice bytes input values : List ℕ) → slice ≡ vs → input ≡ bytes → (listed w && below w slice) ≡ true → bytes ≡ kind.image w slice
-      → values ≡ values_of (reading kind w (length slice) input 0) → (bytes ≡ kind.image w vs) × (values ≡ vs)
-  there_and_back law vs slice bytes input values same lent fits image found =
-      (image ∙ ap (kind.image w) same, found ∙ read-image law slice input fits (lent ∙ image) ∙ same)

@@ -13,7 +13,6 @@ use std::io::Read;
 mod packing;
 mod refusals;
 mod report;
-mod shown;
 mod table;
 mod trial;
 

@@ -5,42 +5,20 @@ ghost use Rattle.column.specs.Interface.{reading};
 ghost use Rattle.column.specs.Parsed.{values_of};
 ghost use Rattle.column.specs.Widths.{listed, below};
 
-use crate::shown::Words;
 use column::fault::Fault;
 use column::interface::Column;
 use column::trip::round_trip;
+use document::refusals::Refusal;
 use std::alloc::{AllocError, Global};
-use std::fmt;
+use thiserror::Error;
 
 /// Why a list of values, or bytes, could not be packed or unpacked.
-#[derive(Drop)]
+#[derive(Debug, Drop, Error)]
 pub enum PackError {
-    Memory,
-    Refused(Fault),
-}
-
-impl From<AllocError> for PackError {
-    fn from(_e: AllocError) -> PackError {
-        PackError::Memory
-    }
-}
-
-impl From<Fault> for PackError {
-    fn from(fault: Fault) -> PackError {
-        PackError::Refused(fault)
-    }
-}
-
-impl fmt::Display for PackError {
-    fn fmt<W: fmt::Write>(&self, f: &mut fmt::Formatter<W>) -> fmt::Result {
-        match self {
-            PackError::Memory => write!(f, "no memory"),
-            PackError::Refused(fault) => {
-                let words = Words(*fault);
-                write!(f, "{words}")
-            }
-        }
-    }
+    #[error("no memory")]
+    Memory(#[from(alloc)] AllocError),
+    #[error("{0}; refusal {number}", number = Refusal::of_fault(*.0, 0).number())]
+    Refused(#[from] Fault),
 }
 
 /// The values' bytes under a kind, in a buffer of this room.

@@ -1,13 +1,11 @@
 //! One example of each refusal.
 
-use crate::packing::{pack, unpack};
-use crate::shown::Hex;
+use crate::packing::{PackError, pack, unpack};
 use column::flat::Flat;
-use column::interface::Column;
 use column::short::Short;
 use column::steps::Steps;
 use document::refusals::Refusal;
-use std::alloc::Global;
+use printing::Hex;
 use std::io;
 
 /// Ten bytes that each say that another follows, and an eleventh.
@@ -15,36 +13,17 @@ const ELEVEN: [u8; 11] = [
     0x80, 0x80, 0x80, 0x80, 0x80, 0x80, 0x80, 0x80, 0x80, 0x80, 0,
 ];
 
-/// Prints what became of packing the values into this room.
-fn show_pack<C: Column>(
+/// Prints how many bytes or values were taken, or why none was.
+fn show_taken<T: Drop>(
     rt: &HostRuntime,
     title: &str,
-    kind: &C,
-    width: u32,
-    values: &[u64],
-    room: usize,
+    taken: Result<Vec<T>, PackError>,
+    unit: &str,
 ) -> io::Result<()> {
-    match pack(rt.alloc(), kind, width, values, room) {
-        Ok(bytes) => {
-            let size = bytes.len();
-            println!(rt; "  {title}: taken, {size} bytes")
-        }
-        Err(error) => println!(rt; "  {title}: {error}"),
-    }
-}
-
-/// Prints what became of reading one value from the bytes.
-fn show_unpack<C: Column>(
-    rt: &HostRuntime,
-    title: &str,
-    kind: &C,
-    width: u32,
-    bytes: &[u8],
-) -> io::Result<()> {
-    match unpack(rt.alloc(), kind, width, 1, bytes) {
-        Ok(values) => {
-            let count = values.len();
-            println!(rt; "  {title}: taken, {count} values")
+    match taken {
+        Ok(items) => {
+            let count = items.len();
+            println!(rt; "  {title}: taken, {count} {unit}")
         }
         Err(error) => println!(rt; "  {title}: {error}"),
     }
@@ -52,56 +31,50 @@ fn show_unpack<C: Column>(
 
 /// What a write refuses.
 fn show_writes(rt: &HostRuntime) -> io::Result<()> {
+    let alloc = rt.alloc();
     let room = Short::size(300).saturating_sub(1);
-    show_pack(
+    let short = pack(alloc, &Short, 32, &[300], room);
+    show_taken(
         rt,
         "short 32, 300, one byte of room too few",
-        &Short,
-        32,
-        &[300],
-        room,
+        short,
+        "bytes",
     )?;
-    show_pack(rt, "flat 12, 300, no such width", &Flat, 12, &[300], 8)?;
-    show_pack(rt, "flat 8, 256, above the width", &Flat, 8, &[256], 8)?;
+    let unlisted = pack(alloc, &Flat, 12, &[300], 8);
+    show_taken(rt, "flat 12, 300, no such width", unlisted, "bytes")?;
+    let above = pack(alloc, &Flat, 8, &[256], 8);
+    show_taken(rt, "flat 8, 256, above the width", above, "bytes")?;
     let steps = Steps { lower: Flat };
-    show_pack(
+    let above = pack(alloc, &steps, 8, &[256], 8);
+    show_taken(
         rt,
         "steps over flat 8, 256, above the width",
-        &steps,
-        8,
-        &[256],
-        8,
+        above,
+        "bytes",
     )?;
-    show_pack(
+    let roomless = pack(alloc, &steps, 8, &[255], 0);
+    show_taken(
         rt,
         "steps over flat 8, 255, no room at all",
-        &steps,
-        8,
-        &[255],
-        0,
+        roomless,
+        "bytes",
     )
 }
 
-/// What a read refuses.
+/// What a read of one value refuses.
 fn show_reads(rt: &HostRuntime) -> io::Result<()> {
-    show_unpack(
-        rt,
-        "short 32, ac 02 without its last byte",
-        &Short,
-        32,
-        &[0xac],
-    )?;
-    show_unpack(rt, "flat 1, 02, neither 0 nor 1", &Flat, 1, &[2])?;
-    show_unpack(rt, "short 64, a form of eleven bytes", &Short, 64, &ELEVEN)?;
+    let alloc = rt.alloc();
+    let cut = unpack(alloc, &Short, 32, 1, &[0xac]);
+    show_taken(rt, "short 32, ac 02 without its last byte", cut, "values")?;
+    let bit = unpack(alloc, &Flat, 1, 1, &[2]);
+    show_taken(rt, "flat 1, 02, neither 0 nor 1", bit, "values")?;
+    let eleven = unpack(alloc, &Short, 64, 1, &ELEVEN);
+    show_taken(rt, "short 64, a form of eleven bytes", eleven, "values")?;
     let steps = Steps { lower: Flat };
-    show_unpack(
-        rt,
-        "steps over flat 1, 02, neither 0 nor 1",
-        &steps,
-        1,
-        &[2],
-    )?;
-    show_unpack(rt, "steps over flat 12, no such width", &steps, 12, &[2])
+    let bit = unpack(alloc, &steps, 1, 1, &[2]);
+    show_taken(rt, "steps over flat 1, 02, neither 0 nor 1", bit, "values")?;
+    let unlisted = unpack(alloc, &steps, 12, 1, &[2]);
+    show_taken(rt, "steps over flat 12, no such width", unlisted, "values")
 }
 
 /// What the test of text refuses.
@@ -109,11 +82,9 @@ fn show_text(rt: &HostRuntime, text: &[u8]) -> io::Result<()> {
     let bytes = Hex(text);
     match utf8::well_formed(text) {
         Ok(()) => println!(rt; "  text {bytes}: taken"),
-        Err(utf8::Fault::IllFormed) => {
+        Err(fault) => {
             let number = Refusal::Text.number();
-            println!(rt;
-                "  text {bytes}: ILL-FORMED, it is not well-formed UTF-8; refusal {number}"
-            )
+            println!(rt; "  text {bytes}: {fault}; refusal {number}")
         }
     }
 }

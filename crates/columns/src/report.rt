@@ -1,13 +1,13 @@
 //! What the program prints of a table.
 
 use crate::packing::there_and_back;
-use crate::shown::{Hex, Spaced};
-use crate::table::{Entry, TableColumn, find};
+use crate::table::{Entry, TableColumn};
 use crate::trial::Trial;
 use column::flat::Flat;
 use column::interface::Column;
 use column::short::Short;
 use column::steps::Steps;
+use printing::{Hex, Spaced};
 use std::io;
 
 /// Whether what came back is what was packed, in words.
@@ -76,27 +76,20 @@ fn show_seat(rt: &HostRuntime, name: &[u8]) -> io::Result<()> {
             let text = std::str::from_utf8(name).unwrap_or("");
             println!(rt; "seat {bytes}: well-formed, {text}")
         }
-        Err(utf8::Fault::IllFormed) => println!(rt; "seat {bytes}: not well-formed"),
+        Err(_) => println!(rt; "seat {bytes}: not well-formed"),
     }
 }
 
 /// Prints each line of the table, and passes over those that cannot be read.
 pub(crate) fn show_table(rt: &HostRuntime, text: &[u8]) -> io::Result<()> {
-    let mut rest = text;
-    let mut number = 0usize;
-    while !rest.is_empty() {
-        let end = find(rest, b'\n');
-        number += 1;
-        match Entry::parse(rt.alloc(), &rest[0..end]) {
+    let lines = text.split_inclusive(|byte| *byte == b'\n');
+    for (number, line) in (1u64..).zip(lines) {
+        let line = line.strip_suffix(b"\n").unwrap_or(line);
+        match Entry::parse(rt.alloc(), line) {
             Ok(Entry::Column(column)) => show_column(rt, &column)?,
             Ok(Entry::Seat(name)) => show_seat(rt, name)?,
             Err(error) => println!(rt; "line {number} is passed over: {error}")?,
         }
-        rest = if end < rest.len() {
-            &rest[end + 1..]
-        } else {
-            &[]
-        };
     }
     Ok(())
 }

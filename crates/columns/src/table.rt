@@ -1,10 +1,12 @@
 //! A card table as text: a line for each column of numbers, and one for each seat.
 
-ghost use Rattle.std.specs.Prelude.{◌≡◌, ℕ, ◌*◌, ◌<◌, ◌≤◌, length, IfOk, vec_len, ◌≢◌, slice_index};
+ghost use Rattle.columns.specs.declared.table.TheConstants.{MOST};
+ghost use Rattle.std.specs.Prelude.{◌≡◌, ◌*◌, ◌≤◌, IfOk, vec_len};
 
-use std::alloc::{AllocError, AllocFailed, Global};
-use std::fmt;
+use std::alloc::{AllocError, Global};
 use std::num::ParseIntError;
+use std::str::Utf8Error;
+use thiserror::Error;
 
 /// A column has at most this many values.
 const MOST: usize = 64;
@@ -15,7 +17,7 @@ pub struct TableColumn {
     pub name: String,
     pub width: u32,
     pub values: Vec<u64>,
-    ghost few: { vec_len values ≤ 64 },
+    ghost few: { vec_len values ≤ MOST },
 }
 
 /// What a line holds. The name at a seat is bytes, which need not be well-formed text.
@@ -26,65 +28,25 @@ pub enum Entry<'a> {
 }
 
 /// Why a line could not be read.
-#[derive(Drop)]
+#[derive(Debug, Drop, Error)]
 pub enum LineError {
-    Memory,
-    NotText,
+    #[error("no memory")]
+    Memory(#[from(alloc)] AllocError),
+    #[error("it is not text")]
+    NotText(#[from] Utf8Error),
+    #[error("it has no colon")]
     NoColon,
+    #[error("its name has no width")]
     NoWidth,
-    NoNumber,
+    #[error("a word is not a number of 64 bits")]
+    NoNumber(#[from] ParseIntError),
+    #[error("it has more than {most} values", most = MOST)]
     TooMany,
-}
-
-impl From<AllocError> for LineError {
-    fn from(_e: AllocError) -> LineError {
-        LineError::Memory
-    }
-}
-
-impl<T: Drop> From<AllocFailed<T>> for LineError {
-    fn from(_e: AllocFailed<T>) -> LineError {
-        LineError::Memory
-    }
-}
-
-impl From<ParseIntError> for LineError {
-    fn from(_e: ParseIntError) -> LineError {
-        LineError::NoNumber
-    }
-}
-
-impl fmt::Display for LineError {
-    fn fmt<W: fmt::Write>(&self, f: &mut fmt::Formatter<W>) -> fmt::Result {
-        let words = match self {
-            LineError::Memory => "no memory",
-            LineError::NotText => "it is not text",
-            LineError::NoColon => "it has no colon",
-            LineError::NoWidth => "its name has no width",
-            LineError::NoNumber => "a word is not a number of 64 bits",
-            LineError::TooMany => "it has more than 64 values",
-        };
-        write!(f, "{words}")
-    }
-}
-
-/// The index of the first byte of the text that equals this one, or the text's length where there is none.
-pub(crate) fn find(text: &[u8], byte: u8) -> usize
-    ensures within { result ≤ length text.now }
-    ensures before { (k : ℕ) → k < result → slice_index text.now k ≢ byte }
-    ensures found { result < length text.now → slice_index text.now result ≡ byte }
-{
-    for (i, b) in text.iter().enumerate() {
-        if *b == byte {
-            return i;
-        }
-    }
-    text.len()
 }
 
 /// The numbers of a text, at most `MOST` of them.
 pub(crate) fn numbers(alloc: Global, text: &str) -> Result<Vec<u64>, LineError>
-    ensures { IfOk result (λ values. vec_len values ≤ 64) }
+    ensures { IfOk result (λ values. vec_len values ≤ MOST) }
 {
     let mut values = Vec::new(alloc);
     for word in text.split_whitespace() {
@@ -122,9 +84,7 @@ impl Entry<'_> {
         if let Some(name) = line.strip_prefix(b"seat: ") {
             return Ok(Entry::Seat(name));
         }
-        match std::str::from_utf8(line) {
-            Ok(text) => Ok(Entry::Column(TableColumn::parse(alloc, text)?)),
-            Err(_) => Err(LineError::NotText),
-        }
+        let text = str::from_utf8(line)?;
+        Ok(Entry::Column(TableColumn::parse(alloc, text)?))
     }
 }

@@ -1,7 +1,6 @@
 -- A place that waits for a value waits for it at a record of a node.
-use Rattle.std.proofs.Common.{◌≡◌, ℕ, ◌-◌, ◌<◌, ◌≤◌, List, [], ◌∷◌, refl, subst, inl, inr, arith}
+use Rattle.std.proofs.Common.{◌≡◌, ℕ, ◌-◌, ◌<◌, List, [], ◌∷◌, refl, subst, inl, inr}
 use mathlib.Core.Logic.{∥∥₁_elim, ∥∥₁_prop}
-use native.Mathlib.Bridge.{le_prop}
 use Rattle.document.specs.Nodes.{Path}
 use Rattle.document.specs.Places.{Place, items, keys, vals, fields, lone, only, closing, Next, nowhere, there, next}
 use Rattle.document.specs.Reader.{Reading, Store}
@@ -14,13 +13,8 @@ use Rattle.nodes.proofs.Stacked.{levels_top}
 use Rattle.de.specs.declared.desk.Desk.{Desk}
 use Rattle.de.specs.Moves.{Sheets, sheets}
 use Rattle.de.specs.Reads.{Reads}
-use Rattle.de.specs.Served.{Readable}
 use Rattle.de.specs.Steps.{Plan, declines, closes, begins, asks, on_ahead, on_question, Aims}
 use Rattle.de.specs.Standing.{Stands}
-
--- a record that is a node's is in use
-pub readable-used : (input : List ℕ) (T : Sheets) (r : ℕ) → Readable input T r → r < T.used
-readable-used input T r h = ∥∥₁_elim h le_prop (λ (ps, S, p, reads, home). omega (arith, reads.linked.used, home.1))
 
 -- a place of the definitions is not the root's: the record that it asks is where its next value stands
 pub asks_ahead : (ns : List Path) (s : State) (f : Place) → Placed ns s f → on_question s ≡ on_ahead (ahead s)
@@ -59,7 +53,3 @@ aims-prop input T (asks r s) a b = ∥∥₁_prop a b
 pub kept-aims : (d : Desk) (input : List ℕ) → 0 < d.places.depth → ∥ ((R : Reading) × Stands d input R) ∥₁ → Aims input (sheets d.tables) (on_question (top d.places))
 kept-aims d input h s =
     ∥∥₁_elim s (aims-prop input (sheets d.tables) (on_question (top d.places))) (λ (R, S). open-aims input (sheets d.tables) S.nodes R.store S.reads (top d.places) _ R.places (open_top d input R S h))
-
--- .. and has at most 32 places open
-pub kept-depth : (d : Desk) (input : List ℕ) → ∥ ((R : Reading) × Stands d input R) ∥₁ → d.places.depth ≤ 32
-kept-depth d input s = ∥∥₁_elim s le_prop (λ (R, S). S.depth)

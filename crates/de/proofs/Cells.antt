@@ -82,7 +82,7 @@ numbers-stored K n slots spot gain ns other s e =
       stored = λ _. subst (Stored n slots spot gain.spot) (sym (num-number ns)) s;
       sum-is = e;
       letters = λ t. absurd (other t);
-      place = λ t. absurd (other t);
+      text = λ t. absurd (other t);
     }
 
 -- the sum of lengths, as cells
@@ -97,7 +97,7 @@ texts-stored n slots spot gain ts s =
       stored = λ _. subst (Stored n slots spot gain.spot) (sym (num-letters ts)) s.stored;
       sum-is = s.sum-is ∙ ap sum (sym (num-letters ts)) ∙ sym (sum-num (each letters ts));
       letters = λ _. letters-long ts;
-      place = λ _. s.place;
+      text = λ _. s.text;
     }
 
 -- a node of scalars has a column of their width
@@ -107,12 +107,12 @@ of_scalar col column n w u k e = ap (λ (v : ℕ). and_then (numbers col column 
 
 -- a node of a kind without columns has nothing to be read
 pub blank_read : (K : Kind) → columns_of K ≡ 0 → (col : Meaning) (column n room : ℕ) (input slots : List ℕ) (spot : Spot) → Within room input spot
-    → Reads room input spot spot (fetch col column K n (left_at room input spot)) (CellsStored K n slots spot (record { spot = spot; sum = 0 }))
+    → Reads room input spot spot (fetch col column K n (left_at room input spot)) (CellsStored K n slots spot (record { spot = spot; text = spot.place; sum = 0 }))
 unfolding fetch
 blank_read K e col column n room input slots spot w = go K e
   where
     blank : (K : Kind) (c : Cell) → columns_of K ≡ 0 → (K ≡ TEXT → ⊥) → lengths_of K (replicate n c) ≡ 0
-        → Reads room input spot spot (fetched (replicate n c) (left_at room input spot)) (CellsStored K n slots spot (record { spot = spot; sum = 0 }))
+        → Reads room input spot spot (fetched (replicate n c) (left_at room input spot)) (CellsStored K n slots spot (record { spot = spot; text = spot.place; sum = 0 }))
     blank K c e other s =
         record {
           what = replicate n c;
@@ -120,10 +120,10 @@ blank_read K e col column n room input slots spot w = go K e
           within = w;
           taken = omega arith;
           place = omega arith;
-          holds = record { count = length-replicate n c; stored = λ h. absurd (omega arith); sum-is = sym s; letters = λ t. absurd (other t); place = λ t. absurd (other t) };
+          holds = record { count = length-replicate n c; stored = λ h. absurd (omega arith); sum-is = sym s; letters = λ t. absurd (other t); text = λ t. absurd (other t) };
         }
 
-    go : (K : Kind) → columns_of K ≡ 0 → Reads room input spot spot (fetch col column K n (left_at room input spot)) (CellsStored K n slots spot (record { spot = spot; sum = 0 }))
+    go : (K : Kind) → columns_of K ≡ 0 → Reads room input spot spot (fetch col column K n (left_at room input spot)) (CellsStored K n slots spot (record { spot = spot; text = spot.place; sum = 0 }))
     go (SCALAR k) e = absurd (omega arith)
     go TEXT e = absurd (omega arith)
     go SEQ e = absurd (omega arith)

@@ -90,14 +90,14 @@ module _ (col : Meaning) (law : Lawful col) (input : List ℕ) (bytes : Bytes in
   text_at : K ≡ TEXT → y.text ≡ first_text S u cs
   text_at e =
       let sum : g.sum ≡ total num cs = finds.stored.sum-is ∙ ap (λ J. lengths_of J cs) e in
-      omega (arith, sum, total_letters cs (finds.stored.letters e), h.place, ap length h.rest, length-drop T.place input, ap (λ (w : Supply). length w.input) finds.left, length-drop g.spot.place input, finds.place, finds.within.place)
+      omega (arith, sum, total_letters cs (finds.stored.letters e), h.place, ap length h.rest, length-drop T.place input, ap (λ (w : Supply). length w.input) finds.left, length-drop g.spot.place input, finds.stored.text e, finds.place, finds.within.place)
 
   -- the values, by the kind
   values : (J : Kind) → J ≡ K → Values A (first_text S u cs) y J cs
   values (SCALAR k) e = (lies (finds.stored.stored (some (SCALAR k) e (omega arith))), scalar_fits col law S.columns k n (supply S.slots S.input) rest cs u (ap (λ J. fetch col S.columns J n (supply S.slots S.input)) e ∙ read))
   values TEXT e =
       let sum : g.sum ≡ total num cs = finds.stored.sum-is ∙ ap (λ J. lengths_of J cs) (sym e) in
-      (lies (finds.stored.stored (some TEXT e (omega arith))), text_at (sym e), omega (arith, finds.stored.place (sym e), sum), finds.stored.letters (sym e))
+      (lies (finds.stored.stored (some TEXT e (omega arith))), text_at (sym e), omega (arith, finds.stored.text (sym e), sum), finds.stored.letters (sym e))
   values SEQ e = lies (finds.stored.stored (some SEQ e (omega arith)))
   values MAP e = lies (finds.stored.stored (some MAP e (omega arith)))
   values ENUM e = (lies (finds.stored.stored (some ENUM e (omega arith))), enum_fits col law S.columns n (supply S.slots S.input) rest cs u (ap (λ J. fetch col S.columns J n (supply S.slots S.input)) e ∙ read))

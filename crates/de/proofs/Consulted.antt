@@ -25,7 +25,7 @@ use Rattle.de.specs.Asked.{opens_place, branching, letters_of}
 use Rattle.de.specs.Answered.{question_of}
 use Rattle.de.specs.Reads.{columns_read, Values, Kept, Reads}
 use Rattle.de.specs.Served.{Spared, Readable, Replied, Consulted}
-use Rattle.de.specs.Viewed.{LookSafe, Looks}
+use Rattle.de.specs.Viewed.{LookSafe, Looks, spot_of, reached}
 use Rattle.de.specs.Taken.{taken_in, branched, branch_then, opened_at, TakeSafe, IsNew, IsIndex, BranchSafe}
 use Rattle.de.specs.Hearing.{HearSafe, HeardIn, Heard as HeardAs}
 use Rattle.de.proofs.Growing.{linked-tail}
@@ -89,7 +89,6 @@ look_safe input T r h e = ∥∥₁_elim h (look-prop input T r) (λ (ps, S, p, 
     let rooted = reads.rooted ∙ e in
     record {
       within = omega (arith, home.1, reads.linked.used, reads.room rooted);
-      used = omega (arith, reads.room rooted);
       taken = reads.taken;
       place = reads.within;
       columns = columns_few T ps input S reads rooted;
@@ -136,7 +135,7 @@ module _ {col : Meaning} {input : List ℕ} {T U : Sheets} {r : ℕ} {q : Questi
   pub hear_safely : Readable input T r → (a : Ask) → q ≡ question_of a → HearSafe U v.node q
   hear_safely readable a qa = ∥∥₁_elim readable (hear-prop U v.node q) (λ (ps, S, p, h, home).
       let (cs, st, there, seen) = found_seen ps S p a h home qa in
-      subst (HearSafe U v.node) (sym qa) (hear_safe_at _ _ _ (hear_safe (advanced v.gain.spot.taken v.gain.spot.place 0 U) (st.texts p) v.node a cs seen.values seen.left (omega (arith, seen.usable)))))
+      subst (HearSafe U v.node) (sym qa) (hear_safe_at _ _ _ (hear_safe (advanced (reached (spot_of U) v.gain).taken (reached (spot_of U) v.gain).place 0 U) (st.texts p) v.node a cs seen.values seen.left (omega (arith, seen.usable)))))
 
 -- ---- hearing
 

@@ -9,7 +9,7 @@ use Rattle.document.specs.declared.questions.Answer.{Answer}
 use Rattle.document.specs.Calls.{Kind, TEXT, ENUM, Cell, num, str, Value, scalar, text, none, some, variant, seq, map, tuple, val}
 use Rattle.document.specs.Nodes.{Path, ◌▹◌, alt}
 use Rattle.document.specs.Places.{Place, opens, settle, too_many}
-use Rattle.document.specs.Reader.{Ask, scalar?, text?, option?, variant?, seq?, map?, tuple?, asks, ready, Store, Look, found as found_there, lost, look, Reply, refuse, Worth, worth, worthless, worth_of, Child, childless, child as child_at, child_of as child_at, taken, with_child, recorded, give, pick, consult}
+use Rattle.document.specs.Reader.{Ask, scalar?, text?, option?, variant?, seq?, map?, tuple?, asks, ready, Store, Look, found as found_there, lost, look, Reply, refuse, Worth, worth, worthless, worth_of, Child, childless, child as one_child, child_of as child_at, taken, with_child, recorded, give, pick, consult}
 use Rattle.nodes.specs.Homes.{Home}
 use Rattle.nodes.specs.Placed.{Opens}
 use Rattle.nodes.proofs.Homes.{home-more, home-new}
@@ -201,14 +201,14 @@ module _ {T U : Sheets} {ps : List Path} {input : List ℕ} {S st : Store} {r : 
         where
           go : (k : Child) → Branches p x k → Replied ps input gs T U (recorded (val w) (st.texts p) (settle (opens p w ++ gs)) st' k) (Err refusals.Nodes)
           go childless b = cc
-          go (child_at q) (j, b, is) =
+          go (one_child q) (j, b, is) =
               let same : j ≡ i = cc in
               let enum = enum_at i e in
               let unmade : st'.made q ≡ false = ap st'.made (is ∙ ap (λ k. p ▹ alt k) same) ∙ Q.seen.made (p ▹ alt i) ∙ none_made i enum missing in
               subst (λ m. Replied ps input gs T U m (Err refusals.Nodes)) (sym (cond-false (st'.made q) _ _ unmade ∙ cond-false (leb 1 st'.records) _ _ (free_is enum ∙ ap (λ b. cond b false true) lacks))) (refl, Q.spares)
 
       -- the tables once the answer is taken, and its place
-      module _ (T' : Sheets) (child : ℕ) (is_child : child ≡ branch_in U v.node (branching x)) (taken_in : T' ≡ branched r child (branching x) (taken_in r v (letters_of x) U)) (room : (i : ℕ) → branching x ≡ options.Some i → child ≡ 0 → lacks_nodes U 1 ≡ false) where
+      module _ (T' : Sheets) (child : ℕ) (is_child : child ≡ branch_in U v.node (branching x)) (is_taken : T' ≡ branched r child (branching x) (taken_in r v (letters_of x) U)) (room : (i : ℕ) → branching x ≡ options.Some i → child ≡ 0 → lacks_nodes U 1 ≡ false) where
         -- the record of the child, and what is heard
         abbrev k' : ℕ
         k' = branch_then child (branching x) (taken_in r v (letters_of x) U)
@@ -232,7 +232,7 @@ module _ {T U : Sheets} {ps : List Path} {input : List ℕ} {S st : Store} {r : 
         same_lengths : SameLengths T T'
         same_lengths =
             let V = taken_in r v (letters_of x) U in
-            lengths_trans (lengths_spared Q.spares) (lengths_trans (lengths_taken r v (letters_of x) U) (subst (SameLengths V) (sym taken_in) (lengths_branched r child (branching x) V)))
+            lengths_trans (lengths_spared Q.spares) (lengths_trans (lengths_taken r v (letters_of x) U) (subst (SameLengths V) (sym is_taken) (lengths_branched r child (branching x) V)))
 
         -- taken without a new record
         taken_plain : taken_in r v (letters_of x) U ≡ T' → ((qs : List Path) (i : ℕ) → branching x ≡ options.Some i → Home (ps ++ qs) k' (p ▹ alt i)) → Hears ps input gs (opens p w) T T' st' heard
@@ -252,7 +252,7 @@ module _ {T U : Sheets} {ps : List Path} {input : List ℕ} {S st : Store} {r : 
             let is : st'.nodes p ≡ ready ENUM ds = put_here p (ready (asks a) ds) st.nodes ∙ ap (λ J. ready J ds) enum in
             let reads' = branch_reads V qs input st' reads r p there ds is i unmade free in
             let tables : spawned r i (occurrences V (node V r) i) V ≡ T' =
-            sym (taken_in ∙ ap (λ o. branched r child o V) b ∙ cond-true (eqb child 0) (spawned r i (occurrences V (node V r) i) V) V (eq-eqb child 0 missing)) in
+            sym (is_taken ∙ ap (λ o. branched r child o V) b ∙ cond-true (eqb child 0) (spawned r i (occurrences V (node V r) i) V) V (eq-eqb child 0 missing)) in
             let place : k' ≡ 1 + length qs = ap (λ o. branch_then child o V) b ∙ cond-true (eqb child 0) V.used child (eq-eqb child 0 missing) ∙ reads.linked.used in
             let ours = append_assoc ps more (q ∷ []) in
             let reads'' = subst₂ (λ X xs. Reads X xs input (with_child q st')) tables ours reads' in
@@ -274,8 +274,8 @@ module _ {T U : Sheets} {ps : List Path} {input : List ℕ} {S st : Store} {r : 
             V = taken_in r v (letters_of x) U
 
             go : (k : Child) → Branches p x k → Replied ps input gs T T' (recorded (val w) (st.texts p) (settle (opens p w ++ gs)) st' k) (Ok heard)
-            go childless b = (heard, opens p w, refl, N.answers, lies, refl, taken_plain (sym (taken_in ∙ ap (λ o. branched r child o V) b)) (λ qs i e. cc))
-            go (child_at q) (i, b, is) =
+            go childless b = (heard, opens p w, refl, N.answers, lies, refl, taken_plain (sym (is_taken ∙ ap (λ o. branched r child o V) b)) (λ qs i e. cc))
+            go (one_child q) (i, b, is) =
                 ⊎_elim fresh_branch old_branch (known_child i (enum_at i b))
               where
                 at_child : child ≡ child_of U v.node i
@@ -284,7 +284,7 @@ module _ {T U : Sheets} {ps : List Path} {input : List ℕ} {S st : Store} {r : 
                 before : st'.made q ≡ S.made (p ▹ alt i)
                 before = ap st'.made is ∙ Q.seen.made (p ▹ alt i)
 
-                fresh_branch : (child_of U v.node i ≡ 0) × (S.made (p ▹ alt i) ≡ false) → Replied ps input gs T T' (recorded (val w) (st.texts p) (settle (opens p w ++ gs)) st' (child_at q)) (Ok heard)
+                fresh_branch : (child_of U v.node i ≡ 0) × (S.made (p ▹ alt i) ≡ false) → Replied ps input gs T T' (recorded (val w) (st.texts p) (settle (opens p w ++ gs)) st' (one_child q)) (Ok heard)
                 fresh_branch n =
                     let enum = enum_at i b in
                     let missing = at_child ∙ n.0 in
@@ -293,10 +293,10 @@ module _ {T U : Sheets} {ps : List Path} {input : List ℕ} {S st : Store} {r : 
                     subst (λ m. Replied ps input gs T T' m (Ok heard)) (sym (cond-false (st'.made q) _ _ unmade ∙ cond-true (leb 1 st'.records) _ _ free))
                     (heard, opens p w, refl, N.answers, lies, refl, subst (λ o. Hears ps input gs (opens p w) T T' (with_child o st') heard) (sym is) (taken_new i b enum missing (ap st'.made (sym is) ∙ unmade) (leb-true 1 st'.records free)))
 
-                old_branch : Home ps (child_of U v.node i) (p ▹ alt i) × (S.made (p ▹ alt i) ≡ true) → Replied ps input gs T T' (recorded (val w) (st.texts p) (settle (opens p w ++ gs)) st' (child_at q)) (Ok heard)
+                old_branch : Home ps (child_of U v.node i) (p ▹ alt i) × (S.made (p ▹ alt i) ≡ true) → Replied ps input gs T T' (recorded (val w) (st.texts p) (settle (opens p w ++ gs)) st' (one_child q)) (Ok heard)
                 old_branch f =
                     let there : child ≡ 0 → ⊥ = λ z. omega (arith, f.0.0, at_child) in
-                    let tables : T' ≡ V = taken_in ∙ ap (λ o. branched r child o V) b ∙ cond-false (eqb child 0) (spawned r i (occurrences V (node V r) i) V) V (ne_eqb child 0 there) in
+                    let tables : T' ≡ V = is_taken ∙ ap (λ o. branched r child o V) b ∙ cond-false (eqb child 0) (spawned r i (occurrences V (node V r) i) V) V (ne_eqb child 0 there) in
                     let place : k' ≡ child_of U v.node i = ap (λ o. branch_then child o V) b ∙ cond-false (eqb child 0) V.used child (ne_eqb child 0 there) ∙ at_child in
                     subst (λ m. Replied ps input gs T T' m (Ok heard)) (sym (cond-true (st'.made q) _ _ (before ∙ f.1)))
                     (heard, opens p w, refl, N.answers, lies, refl, taken_plain (sym tables) (λ qs j e. let same : i ≡ j = cc in subst₂ (λ k n. Home (ps ++ qs) k (p ▹ alt n)) (sym place) same (home-more ps qs (child_of U v.node i) (p ▹ alt i) f.0)))

@@ -18,8 +18,8 @@ lengths-cut (n ∷ ns) bs h = ap₂ ◌∷◌ (length-take-le n bs (omega arith)
 pub texts_read : (col : Meaning) (column n room : ℕ) (input slots : List ℕ) (spot : Spot) (gain : Gain)
     → Reads room input spot gain.spot (lengths col column n (left_at room input spot)) (LengthsStored n slots spot gain) → gain.sum ≤ length input - gain.spot.place
     → all_pass (cut (take (spot.taken + n - spot.taken) (drop spot.taken slots)) (take (length input - gain.spot.place) (drop gain.spot.place input))) ≡ true
-    → Reads room input spot (record { taken = gain.spot.taken; place = gain.spot.place + gain.sum }) (texts col column n (left_at room input spot))
-    (TextsStored n slots spot (record { spot = record { taken = gain.spot.taken; place = gain.spot.place + gain.sum }; sum = gain.sum }))
+    → Reads room input spot (record gain.spot { place = gain.spot.place + gain.sum }) (texts col column n (left_at room input spot))
+    (TextsStored n slots spot (record gain { spot = record gain.spot { place = gain.spot.place + gain.sum } }))
 texts_read col column n room input slots spot gain r h pass =
     let bs : List ℕ = drop gain.spot.place input in
     let all : sum r.what ≤ length bs = omega (arith, r.holds.1, length-drop gain.spot.place input) in
@@ -38,6 +38,6 @@ texts_read col column n room input slots spot gain r h pass =
       holds = record {
         stored = record { count = ap length same ∙ r.holds.0.count; taken = r.holds.0.taken; stand = r.holds.0.stand ∙ sym same };
         sum-is = r.holds.1 ∙ ap sum (sym same);
-        place = omega (arith, r.place);
+        text = omega (arith, r.holds.2);
       };
     }

@@ -71,10 +71,6 @@ module _ (T : Sheets) (ps : List Path) (S : Store) (T' : Sheets) (ps' : List Pat
   kept_on a t (ready K cs) (m, n, v, h) =
       (a.mark ∙ m, omega (arith, n, a.done, a.count), values_on a.first a.done a.count a.text (S.texts q) (S'.texts q) t K cs n v, children_on a.first a.count a.children K (λ e. enum_within T (S.texts q) x cs K e v) h)
 
--- tables that stay as they are go on
-pub goes_nowhere : (T : Sheets) (ps : List Path) (S : Store) (q : Path) → GoesOn T ps S T ps S q
-goes_nowhere T ps S q = record { taken = omega arith; place = omega arith; slots = refl; homes = λ r p home. home; branches = λ i m. (m, refl) }
-
 -- ---- slots that are not taken
 
 -- equal tables are spared

@@ -3,9 +3,9 @@ pub mod Reading
 pub mod Lengths
 pub mod Cutting
 pub mod Cells
-pub mod Sheets
 pub mod Growing
 pub mod Sizes
+pub mod Sums
 pub mod Founding
 pub mod Begun
 pub mod Keeping

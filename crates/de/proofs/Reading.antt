@@ -49,7 +49,7 @@ module _ (col : Meaning) (law : Lawful col) (column w n room : ℕ) (input slots
 
   -- and so does the definition
   pub numbers_read : Reads room input spot (record { taken = spot.taken + n; place = spot.place + size }) (numbers col column w n (left_at room input spot))
-      (NumbersStored n (put_mid spot.taken (spot.taken + n - spot.taken) slots values) spot (record { taken = spot.taken + n; place = spot.place + size }))
+      (NumbersStored n (put_mid spot.taken (spot.taken + n - spot.taken) slots values) spot (record { spot = record { taken = spot.taken + n; place = spot.place + size }; text = spot.place + size; sum = 0 }))
   numbers_read =
       let k : ℕ = spot.taken + n - spot.taken in
       let all : List ℕ = put_mid spot.taken k slots values in
@@ -66,6 +66,8 @@ module _ (col : Meaning) (law : Lawful col) (column w n room : ℕ) (input slots
             taken = omega arith;
             stand = sym (ap (λ j. take j (drop spot.taken all)) size_of) ∙ between-put_mid spot.taken k slots values (spot.taken + n) (omega (arith, within.taken)) (long ∙ part ∙ sym size_of);
           },
+          refl,
+          refl,
           refl,
         );
       }

@@ -1,5 +1,5 @@
 -- What a question finds at a node: its next value, and the tables once that is taken.
-use Rattle.std.proofs.Common.{◌≡◌, ℕ, ◌+◌, ◌≤◌, true, List, [], ◌∷◌, ◌++◌, length, min, take, sym, refl, ap, ◌∙◌, subst, subst₂, arith}
+use Rattle.std.proofs.Common.{◌≡◌, ℕ, ◌+◌, ◌≤◌, true, List, [], ◌∷◌, ◌++◌, length, min, take, IsSome, sym, refl, ap, ◌∙◌, subst, subst₂, arith}
 use Rattle.std.proofs.lemmas.List.{append-nil}
 use Rattle.std.proofs.lemmas.Bool.{false≢true}
 use Rattle.column.specs.Meaning.{Meaning}
@@ -16,7 +16,7 @@ use Rattle.de.specs.declared.columns.Gain.{Gain}
 use Rattle.de.specs.Moves.{Sheets, node, advanced}
 use Rattle.de.specs.Reads.{Values, Kept, Reads}
 use Rattle.de.specs.Served.{Spared}
-use Rattle.de.specs.Viewed.{known, found, Finds}
+use Rattle.de.specs.Viewed.{spot_of, known, found, reached, Finds}
 use Rattle.de.specs.Taken.{stepped, taken_in}
 use Rattle.de.proofs.Keeping.{GoesOn, values_on, reads_spared}
 use Rattle.de.proofs.Kin.{kin_values, kin_child}
@@ -45,10 +45,10 @@ pub record Seen (U : Sheets) (ps : List Path) (input : List ℕ) (S st : Store) 
   pub mark : v.node.mark ≡ mark_of K
   pub left : v.node.done + length cs ≡ v.node.count
   pub children : v.node.children ≡ (node U r).children
-  pub usable : v.gain.spot.taken ≤ min (length U.slots) 1048576
-  pub within : v.gain.spot.place ≤ length input
-  pub values : Values (advanced v.gain.spot.taken v.gain.spot.place 0 U) (st.texts p) v.node K cs
-  pub room : v.fresh ≡ true → U.used + family_of v.node.mark ≤ min (length U.nodes) 65536
+  pub usable : (reached (spot_of U) v.gain).taken ≤ min (length U.slots) 1048576
+  pub within : (reached (spot_of U) v.gain).place ≤ length input
+  pub values : Values (advanced (reached (spot_of U) v.gain).taken (reached (spot_of U) v.gain).place 0 U) (st.texts p) v.node K cs
+  pub room : IsSome v.gain → U.used + family_of v.node.mark ≤ min (length U.nodes) 65536
   pub records : K ≡ ENUM → st.records ≡ S.records
   pub made : (q : Path) → st.made q ≡ S.made q
   pub rooted : st.rooted ≡ S.rooted
@@ -69,7 +69,7 @@ module _ (col : Meaning) (input : List ℕ) (T : Sheets) (slots : List ℕ) (ps 
   still = reads_spared T U ps input S h spares
 
   -- it was read before
-  seen_before : (J : Kind) (cs : List Cell) → S.nodes p ≡ ready J cs → kin J K ≡ true → Seen U ps input S S r p K (known T (mark_of K) (node T r)) cs
+  seen_before : (J : Kind) (cs : List Cell) → S.nodes p ≡ ready J cs → kin J K ≡ true → Seen U ps input S S r p K (known (mark_of K) (node T r)) cs
   seen_before J cs was is_kin =
       let k = subst (Kept U ps S p (node U r)) was (still.kept r p home) in
       let on : GoesOn U ps S (advanced U.taken U.place 0 U) ps S p =
@@ -80,15 +80,15 @@ module _ (col : Meaning) (input : List ℕ) (T : Sheets) (slots : List ℕ) (ps 
         children = refl;
         usable = still.taken;
         within = still.within;
-        values = values_on U ps S (advanced U.taken U.place 0 U) ps S p on (node U r) (known T (mark_of K) (node T r)).node refl refl refl refl (S.texts p) (S.texts p) refl K cs k.1 (kin_values U (S.texts p) (node U r) cs J K is_kin k.2);
+        values = values_on U ps S (advanced U.taken U.place 0 U) ps S p on (node U r) (known (mark_of K) (node T r)).node refl refl refl refl (S.texts p) (S.texts p) refl K cs k.1 (kin_values U (S.texts p) (node U r) cs J K is_kin k.2);
         room = λ e. absurd (false≢true e);
         records = λ e. refl;
         made = λ q. refl;
         rooted = refl;
         branching = λ e. subst Branching (sym was) (λ s f. kin_child s J ENUM (ap (kin J) (sym e) ∙ is_kin) f);
         takes = λ c ds letters e text.
-            let t = takes_before U ps input S still r p home rooted J K c ds (was ∙ ap (ready J) e) is_kin (stepped letters (known T (mark_of K) (node T r)).node) letters refl text in
-            ([], subst (λ qs. Reads (taken_in r (known T (mark_of K) (node T r)) letters U) qs input (taken p K c ds S)) (sym (append-nil ps)) t);
+            let t = takes_before U ps input S still r p home rooted J K c ds (was ∙ ap (ready J) e) is_kin (stepped letters (known (mark_of K) (node T r)).node) letters refl text in
+            ([], subst (λ qs. Reads (taken_in r (known (mark_of K) (node T r)) letters U) qs input (taken p K c ds S)) (sym (append-nil ps)) t);
       }
 
   -- its columns were read just now

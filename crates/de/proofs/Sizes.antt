@@ -6,7 +6,9 @@ use Rattle.nodes.specs.Marks.{family_of}
 use Rattle.de.specs.declared.view.View.{View}
 use Rattle.de.specs.Moves.{Sheets, node, spawned, grown, replaced, advanced}
 use Rattle.de.specs.Served.{Spared, SameLengths}
-use Rattle.de.specs.Taken.{columns_with, child_count, stepped, taken_in, occurrences, branched}
+use Rattle.de.specs.declared.records.Node.{Node}
+use Rattle.de.specs.declared.columns.Gain.{Gain}
+use Rattle.de.specs.Taken.{columns_with, children_with, stepped, brought_in, taken_in, occurrences, branched}
 use Rattle.de.proofs.Growing.{length-spawned, length-grown, grown-rest}
 
 -- equal tables are as long
@@ -33,19 +35,21 @@ lengths_spawned r i n T = record { nodes = length-spawned r i n T; slots = refl 
 lengths_grown : (r m n : ℕ) (T : Sheets) → SameLengths T (grown r m n T)
 lengths_grown r m n T = record { nodes = length-grown r m n T; slots = grown-rest (λ U. length U.slots) (λ a i c U. refl) r m n T }
 
+-- another record
+lengths_replaced : (r : ℕ) (x : Node) (T : Sheets) → SameLengths T (replaced r x T)
+lengths_replaced r x T = record { nodes = length-set T.nodes r x; slots = refl }
+
+-- what reading columns brings
+lengths_brought : (r : ℕ) (x : Node) (o : Option Gain) (T : Sheets) → SameLengths T (brought_in r x o T)
+lengths_brought r x options.None T = lengths_same T T refl
+lengths_brought r x (options.Some g) T =
+    let used : Sheets = advanced g.spot.taken g.spot.place (columns_with x.mark) T in
+    let grows = lengths_grown r (family_of x.mark) (children_with x.mark x.count g.sum) used in
+    record { nodes = grows.nodes; slots = grows.slots }
+
 -- an answer is taken
 pub lengths_taken : (r : ℕ) (v : View) (letters : ℕ) (T : Sheets) → SameLengths T (taken_in r v letters T)
-lengths_taken r v letters T = go v.fresh
-  where
-    once : Sheets
-    once = replaced r (stepped letters v.node) T
-
-    read : Sheets
-    read = advanced v.gain.spot.taken v.gain.spot.place (columns_with v.node.mark) once
-
-    go : (b : Bool) → SameLengths T (cond b (grown r (family_of v.node.mark) (child_count v) read) once)
-    go true = lengths_trans (record { nodes = length-set T.nodes r (stepped letters v.node); slots = refl }) (lengths_grown r (family_of v.node.mark) (child_count v) read)
-    go false = record { nodes = length-set T.nodes r (stepped letters v.node); slots = refl }
+lengths_taken r v letters T = lengths_trans (lengths_replaced r (stepped letters v.node) T) (lengths_brought r v.node v.gain (replaced r (stepped letters v.node) T))
 
 -- a new index gets a record
 pub lengths_branched : (r k : ℕ) (o : Option ℕ) (T : Sheets) → SameLengths T (branched r k o T)

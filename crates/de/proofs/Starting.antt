@@ -20,7 +20,7 @@ root-row ns ns' n e is l = ⊎_elim
 
 -- A desk stands for a new reading: its tables have the root's record alone, with nothing read, and its only open place is the root's.
 pub begins : (d : Desk) (input : List ℕ) (ns : List Node) (nodes slots : ℕ) → nodes ≡ length ns → nodes ≡ length d.tables.nodes.items → d.tables.nodes.items ≡ cond (ltb 1 nodes) (set ns 1 root_node) ns → slots ≡ length d.tables.slots.items
-    → d.tables.used ≡ 2 → d.tables.taken ≡ min slots 1 → d.tables.place ≡ 0 → d.tables.columns ≡ 0 → stack d.places ≡ states.Root ∷ [] → d.places.depth ≡ 1 → length d.places.table ≡ 32
+    → d.tables.used ≡ 2 → d.tables.spot.taken ≡ min slots 1 → d.tables.spot.place ≡ 0 → d.tables.columns ≡ 0 → stack d.places ≡ states.Root ∷ [] → d.places.depth ≡ 1 → length d.places.table ≡ 32
     → Stands d input (begin nodes slots input)
 begins d input ns nodes slots m n is s used taken place columns first depth table =
     rw (n, s)

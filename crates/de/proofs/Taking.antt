@@ -4,6 +4,7 @@ use Rattle.std.proofs.lemmas.Bool.{cases_Bool, cond-true, cond-false, false≢tr
 use Rattle.document.specs.Calls.{total, Kind, Cell}
 use Rattle.document.specs.Nodes.{Path, root, ◌▹◌, Step, alt, same}
 use Rattle.document.specs.Reader.{ready, Store, kin, put, letter_count, taken}
+use Rattle.document.proofs.Taking.{total_mono}
 use Rattle.document.proofs.Paths.{same_self, same_true}
 use Rattle.nodes.specs.Marks.{mark_of}
 use Rattle.nodes.specs.Homes.{Home}
@@ -19,11 +20,6 @@ use Rattle.de.proofs.Answering.{letters_at, values_step}
 use Rattle.de.proofs.Kin.{kin_values, kin_children, kin_child, kin_columns}
 
 -- ---- sums over the nodes
-
--- greater terms have a greater sum
-pub total_mono : (f g : Path → ℕ) → ((q : Path) → f q ≤ g q) → (qs : List Path) → total f qs ≤ total g qs
-total_mono f g h [] = omega arith
-total_mono f g h (q ∷ qs) = omega (arith, h q, total_mono f g h qs)
 
 -- where one term among them grows by n, the sum does
 pub total_gain : (f g : Path → ℕ) (n : ℕ) → ((q : Path) → f q ≤ g q) → (p : Path) → f p + n ≤ g p → (qs : List Path) (j : ℕ) → j < length qs → get_or qs j root ≡ p → total f qs + n ≤ total g qs

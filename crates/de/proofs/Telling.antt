@@ -1,5 +1,5 @@
 -- A question: the step, the place that it opens, and the places settled.
-use Rattle.std.proofs.Common.{◌≡◌, ℕ, ◌<◌, ◌≤◌, List, length, Ok, Err, Result, refl, ap, ◌∙◌, subst, arith}
+use Rattle.std.proofs.Common.{◌≡◌, ℕ, ◌+◌, ◌<◌, ◌≤◌, List, [], length, Option, Ok, Err, Result, refl, ap, ◌∙◌, subst, arith}
 use mathlib.Core.Logic.{∥∥₁_elim, ∥∥₁_prop}
 use native.Mathlib.Bridge.{le_prop}
 use Rattle.column.specs.Meaning.{Meaning}
@@ -8,6 +8,9 @@ use Rattle.document.specs.declared.questions.Answer.{Answer}
 use Rattle.document.specs.declared.questions.Question.{Question}
 use Rattle.document.specs.Calls.{Call}
 use Rattle.document.specs.Reader.{Reading, Reply, reply, refuse, answer}
+use Rattle.std.specs.declared.option.Option.TheVariants as options
+use Rattle.nodes.specs.declared.places.State.{State}
+use Rattle.nodes.specs.declared.places.Places.{Places}
 use Rattle.nodes.specs.Stack.{stack, top, settled, opening}
 use Rattle.nodes.proofs.Placing.{length-levels}
 use Rattle.de.specs.declared.desk.Desk.{Desk}
@@ -45,33 +48,39 @@ opened-room : (input : List ℕ) (old new : Desk) (a : Reply) (x : Heard) → St
 opened-room input old new (refuse d) x (is, places, spared) = cc
 opened-room input old new (reply c place R') x (y, is, m) = (answered input old new x y c place R' is m).room
 
+-- one place more is open then, if one is opened
+length-opening : (o : Option State) (ss : List State) → length (opening o ss) ≡ length (opening o []) + length ss
+length-opening options.None ss = omega arith
+length-opening (options.Some s) ss = omega arith
+
+-- .. beside those that were
+pub opened-places : (o : Option State) (p : Places) → length (opening o (stack p)) ≡ length (opening o []) + p.depth
+opened-places o p = length-opening o (stack p) ∙ ap (λ k. length (opening o []) + k) (length-levels p.table p.depth)
+
 -- an answer, once its place is opened and the places are settled
 pub told-answered :
-    (input : List ℕ) (R : Reading) (old taken more new : Desk) (a : Reply) (x : Heard)
+    (input : List ℕ) (R : Reading) (old taken new : Desk) (a : Reply) (x : Heard)
     → Stands old input R
     → Stepped input old taken a (Ok x)
-    → stack more.places ≡ opening x.opened (stack taken.places)
-    → length more.places.table ≡ length taken.places.table
-    → more.tables ≡ taken.tables
-    → stack new.places ≡ settled (stack more.places)
-    → new.places.depth ≤ more.places.depth
-    → new.places.table ≡ more.places.table
-    → new.tables ≡ more.tables
+    → stack new.places ≡ settled (opening x.opened (stack taken.places))
+    → new.places.depth ≤ 32
+    → length new.places.table ≡ length taken.places.table
+    → new.tables ≡ taken.tables
     → Told input R old new a (Ok x.answer)
-told-answered input R old taken more new (refuse d) x S (is, places, spared) ms ml mt ns nd nl nt = cc
-told-answered input R old taken more new (reply c place R') x S (y, is, m') ms ml mt ns nd nl nt =
+told-answered input R old taken new (refuse d) x S (is, places, spared) states depth table tables = cc
+told-answered input R old taken new (reply c place R') x S (y, is, m') states depth table tables =
     let m = answered input old taken x y c place R' is m' in (
       x.answer,
       refl,
       m.answers,
       m.lies,
-      lengths_trans m.lengths (lengths_same (sheets taken.tables) (sheets new.tables) (ap sheets (nt ∙ mt))),
+      lengths_trans m.lengths (lengths_same (sheets taken.tables) (sheets new.tables) (ap sheets tables)),
       record {
         nodes = m.nodes;
-        reads = rw (nt ∙ mt) m.reads;
-        opens = rw (ns, ms) m.opens;
-        depth = omega (arith, nd, m.room, ap length ms, length-levels more.places.table more.places.depth);
-        table = ap length nl ∙ ml ∙ m.table ∙ S.table;
+        reads = rw tables m.reads;
+        opens = rw states m.opens;
+        depth = depth;
+        table = table ∙ m.table ∙ S.table;
       },
     )
 

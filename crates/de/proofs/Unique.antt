@@ -29,7 +29,7 @@ hear-prop T x q a b = λ i. record { left = le_prop a.left b.left i; stands = λ
 
 -- what looking asks
 pub look-prop : (input : List ℕ) (T : Sheets) (r : ℕ) → IsProp (LookSafe input T r)
-look-prop input T r a b = λ i. record { within = le_prop a.within b.within i; used = le_prop a.used b.used i; taken = le_prop a.taken b.taken i; place = le_prop a.place b.place i; columns = le_prop a.columns b.columns i }
+look-prop input T r a b = λ i. record { within = le_prop a.within b.within i; taken = le_prop a.taken b.taken i; place = le_prop a.place b.place i; columns = le_prop a.columns b.columns i }
 
 -- what taking an answer asks
 pub take-prop : (T : Sheets) (r : ℕ) (v : View) (letters : ℕ) → IsProp (TakeSafe T r v letters)

@@ -22,7 +22,7 @@ use Rattle.de.specs.Viewed.{spot_of, known, Finds, Answers, LooksAs, Looks}
 
 -- A node as a question finds it, with its cells and the store then: it was read before; or its columns were read just now.
 pub data Viewed (col : Meaning) (input : List ℕ) (T : Sheets) (slots : List ℕ) (S : Store) (x : Row) (p : Path) (K : Kind) (v : View) (cs : List Cell) (st : Store) : Type 0 where
-  before : (H : Kind) → S.nodes p ≡ ready H cs → kin H K ≡ true → v ≡ known T (mark_of K) x → st ≡ S → Viewed col input T slots S x p K v cs st
+  before : (H : Kind) → S.nodes p ≡ ready H cs → kin H K ≡ true → v ≡ known (mark_of K) x → st ≡ S → Viewed col input T slots S x p K v cs st
   now : (n : ℕ) (u : Supply) → S.nodes p ≡ fresh n → T.used + family_of (mark_of K) ≤ min (length T.nodes) 65536
       → fetch col S.columns K n (supply S.slots S.input) ≡ fetched cs u → Finds input T slots K x cs u v → st ≡ opened p K cs u S → Viewed col input T slots S x p K v cs st
 
@@ -33,12 +33,12 @@ Sees col input T slots S x p K (lost e) res = res ≡ Err e
 
 module _ (col : Meaning) (input : List ℕ) (T : Sheets) (slots : List ℕ) (ps : List Path) (S : Store) (r : ℕ) (p : Path) (K : Kind) (h : Reads T ps input S) (rooted : S.rooted ≡ true) where
   -- a node that was read before
-  of_kin : (H : Kind) (cs : List Cell) (res : Result View Refusal) → S.nodes p ≡ ready H cs → res ≡ cond (kin H K) (Ok (known T (mark_of K) (node T r))) (Err refusals.Kind)
+  of_kin : (H : Kind) (cs : List Cell) (res : Result View Refusal) → S.nodes p ≡ ready H cs → res ≡ cond (kin H K) (Ok (known (mark_of K) (node T r))) (Err refusals.Kind)
       → Sees col input T slots S (node T r) p K (cond (kin H K) (found_there cs S) (lost refusals.Kind)) res
   of_kin H cs res e is = go (kin H K) refl is
     where
-      go : (b : Bool) → kin H K ≡ b → res ≡ cond b (Ok (known T (mark_of K) (node T r))) (Err refusals.Kind) → Sees col input T slots S (node T r) p K (cond b (found_there cs S) (lost refusals.Kind)) res
-      go true k q = (known T (mark_of K) (node T r), q, before H e k refl refl)
+      go : (b : Bool) → kin H K ≡ b → res ≡ cond b (Ok (known (mark_of K) (node T r))) (Err refusals.Kind) → Sees col input T slots S (node T r) p K (cond b (found_there cs S) (lost refusals.Kind)) res
+      go true k q = (known (mark_of K) (node T r), q, before H e k refl refl)
       go false k q = q
 
   -- a node whose columns are read

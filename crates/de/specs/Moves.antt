@@ -25,11 +25,11 @@ root_node = unread 0 1
 
 -- a record with another next one
 abbrev pub with_next : Node → ℕ → Node
-with_next x k = record { mark = x.mark; count = x.count; done = x.done; first = x.first; text = x.text; index = x.index; next = k; children = x.children }
+with_next x k = record x { next = k }
 
 -- .. and with another chain of children
 abbrev pub with_children : Chain → Node → Node
-with_children c x = record { mark = x.mark; count = x.count; done = x.done; first = x.first; text = x.text; index = x.index; next = x.next; children = c }
+with_children c x = record x { children = c }
 
 -- ---- the tables
 
@@ -44,7 +44,7 @@ pub record Sheets : Type 0 where
 
 -- the code's tables so
 abbrev pub sheets : Tables → Sheets
-sheets t = record { nodes = vec_items t.nodes; slots = vec_items t.slots; used = t.used; taken = t.taken; place = t.place; columns = t.columns }
+sheets t = record { nodes = vec_items t.nodes; slots = vec_items t.slots; used = t.used; taken = t.spot.taken; place = t.spot.place; columns = t.columns }
 
 -- a node's record; past the table's end what a new reader has for the root
 abbrev pub node : Sheets → ℕ → Node
@@ -66,13 +66,9 @@ lacks_child T k (options.Some i) = cond (k == 0) (lacks_nodes T 1) false
 -- a new record of a node with n values, as the last child of r
 abbrev pub spawned : ℕ → ℕ → ℕ → Sheets → Sheets
 spawned r i n T =
-    record {
+    record T {
       nodes = adjust (with_children (longer (node T r).children T.used)) r (appended with_next T.nodes (node T r).children.last T.used (unread i n));
-      slots = T.slots;
       used = T.used + 1;
-      taken = T.taken;
-      place = T.place;
-      columns = T.columns;
     }
 
 -- .. and so many, each with n values
@@ -82,11 +78,11 @@ grown r (suc k) n T = spawned r k n (grown r k n T)
 
 -- another record for r
 abbrev pub replaced : ℕ → Node → Sheets → Sheets
-replaced r x T = record { nodes = slice_set T.nodes r x; slots = T.slots; used = T.used; taken = T.taken; place = T.place; columns = T.columns }
+replaced r x T = record T { nodes = slice_set T.nodes r x }
 
 -- columns were read: so many slots are taken then, and the input is read so far
 abbrev pub advanced : ℕ → ℕ → ℕ → Sheets → Sheets
-advanced taken place more T = record { nodes = T.nodes; slots = T.slots; used = T.used; taken = taken; place = place; columns = T.columns + more }
+advanced taken place more T = record T { taken = taken; place = place; columns = T.columns + more }
 
 -- the child of r with the index, 0 where it has none
 abbrev pub child_of : Sheets → Node → ℕ → ℕ

@@ -1,5 +1,5 @@
 -- What taking an answer does to the tables. These mirror the code; what they come to is said in Reads.
-use Rattle.std.specs.Prelude.{◌≡◌, ℕ, ◌+◌, ◌^◌, ◌<◌, ◌≤◌, true, cond, length, Option, ◌==◌}
+use Rattle.std.specs.Prelude.{◌≡◌, ℕ, ◌+◌, ◌^◌, ◌<◌, ◌≤◌, cond, length, Option, IsSome, ◌==◌}
 use Rattle.std.specs.declared.option.Option.TheVariants as options
 use Rattle.document.specs.declared.questions.Answer.{Answer}
 use Rattle.document.specs.declared.questions.Answer.TheVariants as answers
@@ -13,6 +13,7 @@ use Rattle.nodes.specs.declared.places.State.{State}
 use Rattle.nodes.specs.declared.places.State.TheVariants.{Items, Keys, Fields, Lone, One}
 use Rattle.nodes.specs.Marks.{family_of}
 use Rattle.de.specs.declared.records.Node.{Node}
+use Rattle.de.specs.declared.columns.Gain.{Gain}
 use Rattle.de.specs.declared.view.View.{View}
 use Rattle.de.specs.Moves.{Sheets, node, spawned, grown, replaced, advanced}
 use Rattle.de.specs.Reads.{all_of}
@@ -39,20 +40,18 @@ children_with marks.Enum count sum = sum
 children_with marks.Unit count sum = sum
 children_with (marks.Tuple n) count sum = count
 
--- .. at a node as it was found
-abbrev pub child_count : View → ℕ
-child_count v = children_with v.node.mark v.node.count v.gain.sum
-
 -- one value of the node is answered, with so many text bytes
 abbrev pub stepped : ℕ → Node → Node
-stepped letters x = record { mark = x.mark; count = x.count; done = x.done + 1; first = x.first; text = x.text + letters; index = x.index; next = x.next; children = x.children }
+stepped letters x = record x { done = x.done + 1; text = x.text + letters }
+
+-- what reading a node's columns brings, if it was just now: the tables are used so far, and the children come that its mark has
+abbrev pub brought_in : ℕ → Node → Option Gain → Sheets → Sheets
+brought_in r x options.None T = T
+brought_in r x (options.Some g) T = grown r (family_of x.mark) (children_with x.mark x.count g.sum) (advanced g.spot.taken g.spot.place (columns_with x.mark) T)
 
 -- the tables once an answer of the node is taken
 abbrev pub taken_in : ℕ → View → ℕ → Sheets → Sheets
-taken_in r v letters T =
-    cond v.fresh
-    (grown r (family_of v.node.mark) (child_count v) (advanced v.gain.spot.taken v.gain.spot.place (columns_with v.node.mark) (replaced r (stepped letters v.node) T)))
-    (replaced r (stepped letters v.node) T)
+taken_in r v letters T = brought_in r v.node v.gain (replaced r (stepped letters v.node) T)
 
 -- how many of a node's values are this index
 abbrev pub occurrences : Sheets → Node → ℕ → ℕ
@@ -70,33 +69,12 @@ branch_then k (options.Some i) T = cond (k == 0) T.used k
 
 -- the place that an answer at r opens; k is the record of its index's child
 abbrev pub opened_at : Sheets → ℕ → ℕ → Question → Answer → Option State
-opened_at T r k q (answers.Bool b) = options.None
-opened_at T r k q (answers.U8 n) = options.None
-opened_at T r k q (answers.U16 n) = options.None
-opened_at T r k q (answers.U32 n) = options.None
-opened_at T r k q (answers.U64 n) = options.None
-opened_at T r k q (answers.I8 z) = options.None
-opened_at T r k q (answers.I16 z) = options.None
-opened_at T r k q (answers.I32 z) = options.None
-opened_at T r k q (answers.I64 z) = options.None
-opened_at T r k q (answers.F32 n) = options.None
-opened_at T r k q (answers.Text place length) = options.None
-opened_at T r k q answers.Unit = options.None
-opened_at T r k q answers.None = options.None
 opened_at T r k q answers.Some = options.Some (One k)
 opened_at T r k q (answers.Variant i) = options.Some (One k)
 opened_at T r k q (answers.Seq n) = options.Some (Items (node T r).children.first n)
 opened_at T r k q (answers.Map n) = options.Some (Keys (node T r).children.first n)
-opened_at T r k (questions.Scalar j) answers.Tuple = options.None
-opened_at T r k questions.Text answers.Tuple = options.None
-opened_at T r k questions.Unit answers.Tuple = options.None
-opened_at T r k questions.Option answers.Tuple = options.None
-opened_at T r k questions.Variant answers.Tuple = options.None
-opened_at T r k (questions.Seq flag) answers.Tuple = options.None
-opened_at T r k (questions.Map flag) answers.Tuple = options.None
 opened_at T r k (questions.Tuple n) answers.Tuple = options.Some (cond (n == 1) (Lone r 1) (Fields (node T r).children.first n))
-opened_at T r k questions.End answers.Tuple = options.None
-opened_at T r k q answers.End = options.None
+opened_at T r k q _ = options.None
 
 -- ---- what the moves ask of the tables: bounds alone
 
@@ -125,7 +103,7 @@ pub record TakeSafe (T : Sheets) (r : ℕ) (v : View) (letters : ℕ) : Type 0 w
   pub left : v.node.done < v.node.count
   pub text : 0 < letters → v.node.text + letters < 2 ^ 64
   pub columns : T.columns + 3 < 2 ^ 32
-  pub room : v.fresh ≡ true → T.used + family_of v.node.mark ≤ length T.nodes
+  pub room : IsSome v.gain → T.used + family_of v.node.mark ≤ length T.nodes
   pub tail : v.node.children.last < T.used
 
 -- .. for the child of an index; k is its record as it was found

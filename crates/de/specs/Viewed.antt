@@ -1,5 +1,6 @@
 -- A node as a question finds it.
-use Rattle.std.specs.Prelude.{◌≡◌, ℕ, ◌+◌, ◌-◌, ◌^◌, ◌<◌, ◌≤◌, Bool, true, false, cond, List, length, Ok, Err, Result}
+use Rattle.std.specs.Prelude.{◌≡◌, ℕ, ◌+◌, ◌^◌, ◌<◌, ◌≤◌, Bool, true, false, cond, List, length, Option, Ok, Err, Result}
+use Rattle.std.specs.declared.option.Option.TheVariants as options
 use Rattle.column.specs.Meaning.{Meaning}
 use Rattle.document.specs.declared.refusals.Refusal.{Refusal}
 use Rattle.document.specs.declared.refusals.Refusal.TheVariants as refusals
@@ -22,32 +23,30 @@ spot_of T = record { taken = T.taken; place = T.place }
 -- what looking at r asks of the tables: bounds alone
 pub record LookSafe (input : List ℕ) (T : Sheets) (r : ℕ) : Type 0 where
   pub within : r < length T.nodes
-  pub used : T.used ≤ 65536
   pub taken : T.taken ≤ usable (length T.slots)
   pub place : T.place ≤ length input
   pub columns : T.columns + 3 < 2 ^ 32
 
 -- a record with another mark
 abbrev pub remarked : Mark → Node → Node
-remarked m x = record { mark = m; count = x.count; done = x.done; first = x.first; text = x.text; index = x.index; next = x.next; children = x.children }
+remarked m x = record x { mark = m }
 
 -- a node that was read before, as this kind now
-abbrev pub known : Sheets → Mark → Node → View
-known T m x =
-    record {
-      node = remarked m x;
-      fresh = false;
-      gain = record { spot = spot_of T; sum = 0 };
-    }
+abbrev pub known : Mark → Node → View
+known m x = record { node = remarked m x; gain = options.None }
 
--- a node that was read just now: its values stand from the first free slot on, its texts at the end of what was read
+-- a node that was read just now: its values stand from the first free slot on, its texts behind its numbers
 abbrev pub found : Sheets → Mark → Node → Gain → View
 found T m x g =
     record {
-      node = record { mark = m; count = x.count; done = 0; first = T.taken; text = g.spot.place - g.sum; index = x.index; next = x.next; children = x.children };
-      fresh = true;
-      gain = g;
+      node = record x { mark = m; done = 0; first = T.taken; text = g.text };
+      gain = options.Some g;
     }
+
+-- how far reading came then: nowhere if the node was read before
+abbrev pub reached : Spot → Option Gain → Spot
+reached spot options.None = spot
+reached spot (options.Some g) = g.spot
 
 -- what was read of a node, and the view of it: reading went on from where the tables are used to another spot, and the cells stand in the slots
 pub record Finds (input : List ℕ) (T : Sheets) (slots : List ℕ) (K : Kind) (x : Node) (cs : List Cell) (u : Supply) (v : View) : Type 0 where
@@ -70,7 +69,7 @@ Answers Tells (denied d) (Err e) = e ≡ d
 abbrev pub LooksAs : Meaning → List ℕ → Sheets → List ℕ → Kind → Node → Bool → Bool → Result View Refusal → Type 0
 LooksAs col input T slots K x true true res = res ≡ Err refusals.Nodes
 LooksAs col input T slots K x true false res = Answers (Finds input T slots K x) (fetch col T.columns K x.count (left_at (usable (length T.slots)) input (spot_of T))) res
-LooksAs col input T slots K x false b res = (J : Kind) → x.mark ≡ mark_of J → res ≡ cond (kin J K) (Ok (known T (mark_of K) x)) (Err refusals.Kind)
+LooksAs col input T slots K x false b res = (J : Kind) → x.mark ≡ mark_of J → res ≡ cond (kin J K) (Ok (known (mark_of K) x)) (Err refusals.Kind)
 
 -- looking at the record r as a node of this kind, with these slots afterwards
 abbrev pub Looks : Meaning → List ℕ → Sheets → List ℕ → ℕ → Kind → Result View Refusal → Type 0

@@ -1,19 +1,17 @@
 //! Questions and answers by themselves.
 
-ghost use Rattle.std.specs.Prelude.{◌≡◌, ◌^◌, ◌<◌, ℕ, length};
-ghost use Rattle.document.specs.Calls.{Cell, num, val, Value};
+ghost use Rattle.std.specs.Prelude.{◌≡◌, ◌&&◌, nat_lt, if◌then◌else◌};
+ghost use Rattle.document.specs.Calls.{Cell};
 ghost use Rattle.document.specs.Reader.{Ask, worth_of};
 ghost use Rattle.de.specs.Answered.{question_of, Worthy};
-ghost use Rattle.de.specs.Asked.{marking, branching, opens_place, opens_any, is_lone, Sized, letters_of, Fitting};
+ghost use Rattle.de.specs.Asked.{marking, branching, opens_place, opens_any, Sized, letters_of, Fitting};
 
+use document::limits::MOST_WITHOUT_SIZE;
 use document::numbers::Number;
 use document::questions::{Answer, Question};
 use document::refusals::Refusal;
 use nodes::marks::Mark;
 use nodes::places::State;
-
-/// A flagged length is at most this.
-const MOST_WITHOUT_SIZE: u64 = 65_536;
 
 /// What a question heard: the answer, and the place that the value opens.
 #[derive(Clone, Copy)]
@@ -22,7 +20,20 @@ pub(crate) struct Heard {
     pub(crate) opened: Option<State>,
 }
 
+impl Heard {
+    /// An answer that opens no place.
+    pub(crate) fn shut(answer: Answer) -> Heard
+        ensures { result ≡ record { answer = answer; opened = None } }
+    {
+        Heard {
+            answer,
+            opened: None,
+        }
+    }
+}
+
 /// The kind that a question asks for; `unit` and `end` ask nothing of a node.
+// Stays: from here on beside the writer's functions of these names, since questions and answers are other types than calls.
 pub(crate) fn mark_of(question: Question) -> Mark
     ensures { result ≡ marking question }
 {
@@ -41,32 +52,20 @@ pub(crate) fn mark_of(question: Question) -> Mark
 pub(crate) fn opens_any(question: Question) -> bool
     ensures { result ≡ opens_any question }
 {
-    match question {
-        Question::Variant | Question::Seq { .. } | Question::Map { .. } | Question::Tuple(_) => {
-            true
-        }
-        _ => false,
-    }
-}
-
-/// Whether a question is `tuple 1`, which asks nothing of its node.
-pub(crate) fn is_lone(question: Question) -> bool
-    ensures { result ≡ is_lone question }
-{
-    match question {
-        Question::Tuple(n) => n == 1,
-        _ => false,
-    }
+    matches!(
+        question,
+        Question::Variant | Question::Seq { .. } | Question::Map { .. } | Question::Tuple(_)
+    )
 }
 
 /// Whether an answer opens a place.
 pub(crate) fn opens_place(answer: Answer) -> bool
     ensures { result ≡ opens_place answer }
 {
-    match answer {
-        Answer::Some | Answer::Variant(_) | Answer::Seq(_) | Answer::Map(_) | Answer::Tuple => true,
-        _ => false,
-    }
+    matches!(
+        answer,
+        Answer::Some | Answer::Variant(_) | Answer::Seq(_) | Answer::Map(_) | Answer::Tuple
+    )
 }
 
 /// The index whose child the value that follows stands at.
@@ -90,13 +89,23 @@ pub(crate) fn letters_of(answer: Answer) -> usize
     }
 }
 
+/// A length, refused where it is flagged and too great.
+fn sized(length: u64, no_size: bool) -> Result<u64, Refusal>
+    ensures { result ≡ (if no_size && nat_lt 65536 length then Err Refusal.NoSize else Ok length) }
+{
+    if no_size && length > MOST_WITHOUT_SIZE {
+        return Err(Refusal::NoSize);
+    }
+    Ok(length)
+}
+
 /// What a number in the slots is worth to a question; `place` is where the node's next text stands.
 pub(crate) fn worth(question: Question, number: u64, place: usize) -> Result<Answer, Refusal>
     requires { Fitting question number }
     ensures { (a : Ask) (c : Cell) → question ≡ question_of a → Sized a c number → Worthy (worth_of a c) place result }
 {
     match question {
-        Question::Scalar(kind) => Ok(Answer::of_number(Number { kind, bits: number })),
+        Question::Scalar(kind) => Ok(Number { kind, bits: number }.into()),
         Question::Text => Ok(Answer::Text {
             place,
             length: number as usize,
@@ -107,18 +116,8 @@ pub(crate) fn worth(question: Question, number: u64, place: usize) -> Result<Ans
             _ => Err(Refusal::Option),
         },
         Question::Variant => Ok(Answer::Variant(number as u32)),
-        Question::Seq { no_size } => {
-            if no_size && number > MOST_WITHOUT_SIZE {
-                return Err(Refusal::NoSize);
-            }
-            Ok(Answer::Seq(number))
-        }
-        Question::Map { no_size } => {
-            if no_size && number > MOST_WITHOUT_SIZE {
-                return Err(Refusal::NoSize);
-            }
-            Ok(Answer::Map(number))
-        }
+        Question::Seq { no_size } => Ok(Answer::Seq(sized(number, no_size)?)),
+        Question::Map { no_size } => Ok(Answer::Map(sized(number, no_size)?)),
         Question::Tuple(_) => Ok(Answer::Tuple),
         Question::Unit => Ok(Answer::Unit),
         Question::End => Ok(Answer::End),

@@ -6,6 +6,7 @@ ghost use Rattle.document.specs.Nodes.{alt, demand};
 
 /// The number of values that each child of an enum's node has, by the child's index: as many as there are of it among the indices.
 /// An index above 255 is no child's.
+// Stays: 256 counts in a plain array by value, by the project's rule; the lookup needs no search and no heap.
 pub(crate) fn histogram(indices: &[u64]) -> [u64; 256]
     ensures { (i : ℕ) → i < 256 → slice_index result i ≡ total (demand ENUM (alt i)) (map number indices.now) }
 {

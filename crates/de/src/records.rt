@@ -1,11 +1,10 @@
 //! The records of the reader's node table.
 
-ghost use Rattle.std.specs.Prelude.{◌≡◌};
-ghost use Rattle.std.proofs.Common.{rules};
+ghost use Rattle.std.specs.Prelude.{◌≡◌, refl};
 ghost use Rattle.de.specs.Moves.{unread};
 
 use chain::{Chain, Linked};
-use nodes::children::Indexed;
+use nodes::children::{Indexed, Parent};
 use nodes::marks::Mark;
 
 /// A record of the node table. Its contents are the reader's own.
@@ -48,17 +47,18 @@ impl Node {
             text: 0,
             index,
             next: 0,
-            children: Chain { first: 0, last: 0 },
+            children: Chain::empty(),
         }
     }
 }
 
+// Stays: written out beside those of the writer's records, since an `impl` may not be written by a macro here.
 impl Linked for Node {
     ghost next_of = { λ n. n.next };
 
-    ghost with_next = { λ n k. record { mark = n.mark; count = n.count; done = n.done; first = n.first; text = n.text; index = n.index; next = k; children = n.children } };
+    ghost with_next = { λ n k. record n { next = k } };
 
-    ghost linked = { Prim.search rules };
+    ghost linked = { λ _ _. refl };
 
     fn next(&self) -> usize {
         self.next
@@ -74,5 +74,21 @@ impl Indexed for Node {
 
     fn index(&self) -> u32 {
         self.index
+    }
+}
+
+impl Parent for Node {
+    ghost children_of = { λ n. n.children };
+
+    ghost with_children = { λ n c. record n { children = c } };
+
+    ghost parental = { λ _ _. refl };
+
+    fn children(&self) -> Chain {
+        self.children
+    }
+
+    fn set_children(&mut self, children: Chain) {
+        self.children = children;
     }
 }

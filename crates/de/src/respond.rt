@@ -1,6 +1,6 @@
 //! A question at the record of a node.
 
-ghost use Rattle.std.specs.Prelude.{◌≡◌, ◌≤◌, true, List, nat_lt, vec_len};
+ghost use Rattle.std.specs.Prelude.{◌≡◌, true, List, nat_lt, vec_len};
 ghost use Rattle.document.specs.Calls.{Cell};
 ghost use Rattle.document.specs.Reader.{Ask};
 ghost use Rattle.de.specs.Moves.{sheets, lacks_child};
@@ -8,7 +8,8 @@ ghost use Rattle.de.specs.Answered.{question_of};
 ghost use Rattle.de.specs.Served.{Readable, Consulted, Responded};
 ghost use Rattle.de.specs.Hearing.{HearSafe, HeardIn, Heard as heard};
 
-use crate::heard::{Heard, index_of, is_lone, letters_of, mark_of, opens_any, opens_place, worth};
+use crate::columns::Source;
+use crate::heard::{Heard, index_of, letters_of, mark_of, opens_any, opens_place, worth};
 use crate::records::Node;
 use crate::store::Tables;
 use column::interface::Column;
@@ -34,33 +35,27 @@ impl Tables {
 
     /// Whether an index is new, and there is no record for its child.
     fn lacks_child(&self, child: usize, index: Option<u32>) -> bool
-        requires { self.now.used ≤ 65536 }
         ensures { result ≡ lacks_child (sheets self.now) child index }
     {
-        match index {
-            Some(_) if child == 0 => self.lacks_nodes(1),
-            _ => false,
-        }
+        index.is_some() && child == 0 && self.lacks_nodes(1)
     }
 
     /// A question that asks a value of the node at the record r; `deep` tells that no further place can be opened.
     fn consult<C: Column>(
         &mut self,
-        kind: &C,
-        input: &[u8],
+        source: &Source<'_, C>,
         r: usize,
         question: Question,
         deep: bool,
     ) -> Result<Heard, Refusal>
-        requires readable { Readable input.now (sheets self.old) r }
+        requires readable { Readable source.now.input.now (sheets self.old) r }
         requires asks { (a : Ask) × (question ≡ question_of a) }
         requires rooted { nat_lt 1 (vec_len self.old.nodes) ≡ true }
-        ensures { Consulted (C.Column.meaning kind.now) input.now r question deep (sheets self.old) (sheets self.new) result }
+        ensures { Consulted (C.Column.meaning source.now.kind.now) source.now.input.now r question deep (sheets self.old) (sheets self.new) result }
     {
-        let view = self.look(kind, input, r, mark_of(question))?;
+        let view = self.look(source, r, mark_of(question))?;
         let answer = self.hear(view.node, question)?;
-        let full = deep && opens_place(answer);
-        if full {
+        if deep && opens_place(answer) {
             return Err(Refusal::Depth);
         }
         let index = index_of(answer);
@@ -77,33 +72,28 @@ impl Tables {
     /// A question at the record r: refused, the tables are as they were, but for slots that are not taken.
     pub(crate) fn respond<C: Column>(
         &mut self,
-        kind: &C,
-        input: &[u8],
+        source: &Source<'_, C>,
         r: usize,
         question: Question,
         deep: bool,
     ) -> Result<Heard, Refusal>
-        requires { Readable input.now (sheets self.old) r }
-        ensures { Responded (C.Column.meaning kind.now) input.now r question deep (sheets self.old) (sheets self.new) result }
+        requires { Readable source.now.input.now (sheets self.old) r }
+        ensures { Responded (C.Column.meaning source.now.kind.now) source.now.input.now r question deep (sheets self.old) (sheets self.new) result }
     {
-        let full = deep && opens_any(question);
-        if full {
+        if deep && opens_any(question) {
             return Err(Refusal::Depth);
         }
         if self.nodes.len() < 2 {
             return Err(Refusal::Nodes);
         }
         match question {
-            Question::Unit => Ok(Heard {
-                answer: Answer::Unit,
-                opened: None,
-            }),
+            Question::Unit => Ok(Heard::shut(Answer::Unit)),
             Question::End => Err(Refusal::Count),
-            _ if is_lone(question) => Ok(Heard {
+            _ if question == Question::Tuple(1) => Ok(Heard {
                 answer: Answer::Tuple,
                 opened: Some(State::Lone { node: r, left: 1 }),
             }),
-            _ => self.consult(kind, input, r, question, deep),
+            _ => self.consult(source, r, question, deep),
         }
     }
 }

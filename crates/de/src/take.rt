@@ -1,17 +1,16 @@
 //! An answer is taken: the node's record, its children, and how far the tables are used.
 
-ghost use Rattle.std.specs.Prelude.{◌≡◌, ◌+◌, ◌<◌, ◌≤◌, length, vec_len, slice_set};
-ghost use Rattle.chain.specs.Chains.{adjust};
-ghost use Rattle.de.specs.Moves.{sheets, node, with_children, spawned, grown, branch_in};
-ghost use Rattle.de.specs.Taken.{GrowSafe, TakeSafe, BranchSafe, columns_with, child_count, taken_in, branched, branch_then, opened_at, occurrences};
+ghost use Rattle.std.specs.Prelude.{◌≡◌, ◌+◌, ◌<◌, ◌≤◌, vec_len};
+ghost use Rattle.de.specs.Moves.{sheets, node, spawned, grown, branch_in};
+ghost use Rattle.de.specs.Taken.{GrowSafe, TakeSafe, BranchSafe, columns_with, children_with, taken_in, branched, branch_then, opened_at, occurrences};
 
+use crate::columns::Gain;
 use crate::histogram::histogram;
 use crate::records::Node;
 use crate::store::Tables;
 use crate::view::View;
-use chain::{Chain, append};
 use document::questions::{Answer, Question};
-use nodes::children::find;
+use nodes::children::{add_child, find};
 use nodes::marks::Mark;
 use nodes::places::State;
 
@@ -27,34 +26,19 @@ fn columns_of(mark: Mark) -> u32
     }
 }
 
-/// How many values each child has that comes with the node's kind.
-fn child_count(view: View) -> u64
-    ensures { result ≡ child_count view }
+/// How many values each child has that comes with the kind of a node with this sum of lengths.
+fn child_count(node: Node, sum: u64) -> u64
+    ensures { result ≡ children_with node.mark node.count sum }
 {
-    match view.node.mark {
-        Mark::Tuple(_) => view.node.count,
-        _ => view.gain.sum,
+    match node.mark {
+        Mark::Tuple(_) => node.count,
+        _ => sum,
     }
-}
-
-/// The record r gets another chain of children.
-fn set_children(nodes: &mut [Node], r: usize, chain: Chain)
-    requires { r < length nodes.old }
-    ensures { nodes.new ≡ adjust (with_children chain) r nodes.old }
-{
-    nodes[r].children = chain;
-}
-
-/// Another record for r.
-fn set_node(nodes: &mut [Node], r: usize, node: Node)
-    requires { r < length nodes.old }
-    ensures { nodes.new ≡ slice_set nodes.old r node }
-{
-    nodes[r] = node;
 }
 
 impl Tables {
     /// A new record of a node with so many values, as the last child of r.
+    // Stays: from here to `branch_out`, beside the writer's: what both do to a table is `add_child`, and how far a table is used is a field of each one's own.
     fn spawn(&mut self, r: usize, index: u32, count: u64) -> usize
         requires within { (r < vec_len self.old.nodes) × ((0 < self.old.used) × (self.old.used < vec_len self.old.nodes)) }
         requires tail { (node (sheets self.old) r).children.last < vec_len self.old.nodes }
@@ -62,10 +46,7 @@ impl Tables {
         ensures tables { sheets self.new ≡ spawned r index count (sheets self.old) }
     {
         let place = self.used;
-        let children = self.nodes[r].children;
-        let record = Node::unread(index, count);
-        let longer = append(&mut self.nodes, children, place, record).unwrap_or(children);
-        set_children(&mut self.nodes, r, longer);
+        add_child(&mut self.nodes, r, place, Node::unread(index, count)).unwrap();
         self.used += 1;
         place
     }
@@ -85,17 +66,14 @@ impl Tables {
         requires { TakeSafe (sheets self.old) r view letters }
         ensures { sheets self.new ≡ taken_in r view letters (sheets self.old) }
     {
-        let mut node = view.node;
+        let View { mut node, gain } = view;
         node.done += 1;
-        if letters > 0 {
-            node.text += letters;
-        }
-        set_node(&mut self.nodes, r, node);
-        if view.fresh {
-            self.taken = view.gain.spot.taken;
-            self.place = view.gain.spot.place;
+        node.text += letters;
+        self.nodes[r] = node;
+        if let Some(Gain { spot, sum, .. }) = gain {
+            self.spot = spot;
             self.columns += columns_of(node.mark);
-            self.grow(r, node.mark.family(), child_count(view));
+            self.grow(r, node.mark.family(), child_count(node, sum));
         }
     }
 
@@ -103,10 +81,7 @@ impl Tables {
     pub(crate) fn branch(&self, node: Node, index: Option<u32>) -> usize
         ensures { result ≡ branch_in (sheets self.now) node index }
     {
-        match index {
-            Some(i) => find(&self.nodes, node.children, i),
-            None => 0,
-        }
+        index.map_or(0, |i| find(&self.nodes, node.children, i))
     }
 
     /// How many of the node's values are this index.
@@ -135,6 +110,7 @@ impl Tables {
     }
 
     /// The place that an answer at r opens; `child` is the record of its index's child.
+    // Stays: beside the writer's, since an answer opens what it does by its question too; a type between them would add a match to each.
     pub(crate) fn opened(
         &self,
         r: usize,

@@ -9,8 +9,6 @@ pub fn text_at(input: &[u8], place: usize, size: usize) -> Result<&[u8], Refusal
     ensures part { IfOk result (λ text. (place + size ≤ length input.now) × (text.now ≡ take size (drop place input.now))) }
     ensures past { IfErr result (λ refusal. (refusal ≡ Refusal.Past) × (length input.now < place + size)) }
 {
-    if place > input.len() || size > input.len() - place {
-        return Err(Refusal::Past);
-    }
-    Ok(&input[place..place + size])
+    let rest = input.get(place..).ok_or(Refusal::Past)?;
+    rest.get(..size).ok_or(Refusal::Past)
 }

@@ -19,10 +19,6 @@ use Rattle.document.specs.Verdict.{Sizes, kind_number, any_of, strange, clash, t
 use Rattle.document.proofs.Paths.{same_self, same_true, not-child, at-append}
 use Rattle.document.proofs.Sound.{Fits, OneKind, Sound, Sane}
 
--- anything, from two constructors that `cc` finds equal
-never : {X : Type 0} → ◌≡◌ {A = ℕ} 0 1 → X
-never e = absurd (omega arith)
-
 -- ---- lists that run
 
 -- from one fact after a turn that was taken to another
@@ -72,7 +68,7 @@ pub accepted-runs : (sizes : Sizes) (done : List Call) (c : Call) → Runs start
 accepted-runs sizes done c r e = go (turn (places_after start done) c) refl e
   where
     go : (t : Turn) → turn (places_after start done) c ≡ t → judged sizes (trace start done) c t ≡ Ok tt → Taken done c
-    go (stays n) is e = never (cc)
+    go (stays n) is e = cc
     go (goes es gs) is e =
         record {
           left = es;
@@ -85,7 +81,7 @@ accepted-runs sizes done c r e = go (turn (places_after start done) c) refl e
 
 -- the first test of an acceptance does not hold, and the others accept
 pub passed : (b : Bool) (r : Refusal) (more : Result (Unit {0}) Refusal) → cond b (Err r) more ≡ Ok tt → (b ≡ false) × (more ≡ Ok tt)
-passed true r more e = never (cc)
+passed true r more e = cc
 passed false r more e = (refl, e)
 
 -- ---- kinds by number
@@ -179,7 +175,7 @@ leaves-fit q p unit r i f = lone-value (same p q) unit tt
 leaves-fit q p none r i f = go (same p q) refl (same (p ▹ alt 0) q) refl
   where
     go : (a : Bool) → same p q ≡ a → (b : Bool) → same (p ▹ alt 0) q ≡ b → Fitting (cond a (none ∷ cond b (unit ∷ []) []) (cond b (unit ∷ []) []))
-    go true m true n = never (cc (same_true p q m, same_true (p ▹ alt 0) q n, same_self p, not-child p (alt 0)))
+    go true m true n = cc (same_true p q m, same_true (p ▹ alt 0) q n, same_self p, not-child p (alt 0))
     go true m false n = (tt, (tt, tt))
     go false m true n = (tt, (tt, tt))
     go false m false n = (tt, tt)
@@ -244,7 +240,7 @@ held_more sizes done end h r e =
     let l = subst (Leaving end) t.turned (turn-leaves (places_after start done) end) in
     let still : trace start (done ++ end ∷ []) ≡ trace start done = t.traced ∙ ap (λ es. trace start done ++ es) l ∙ append-nil (trace start done) in
     let first = λ (none_yet : done ≡ []). subst (λ (ds : List Call). verdict sizes ds end ≡ Ok tt) none_yet e in
-    record { runs = t.runs; sound = rw still h.sound; within = elim h.within [ inl none_yet ↦ never (cc (first none_yet)) | inr w ↦ inr (rw still w) ] }
+    record { runs = t.runs; sound = rw still h.sound; within = elim h.within [ inl none_yet ↦ cc (first none_yet) | inr w ↦ inr (rw still w) ] }
 
 -- .. and so do any number of them ..
 held_all : (sizes : Sizes) (cs done : List Call) → Held sizes done → AcceptedAfter sizes done cs → Held sizes (done ++ cs)
@@ -260,6 +256,6 @@ pub accepted-sane : (sizes : Sizes) (cs : List Call) → Accepted sizes cs → D
 accepted-sane sizes cs a d =
     let h = accepted-held sizes cs a in
     elim h.within [
-      | inl empty ↦ never (cc (subst Done empty d))
+      | inl empty ↦ cc (subst Done empty d)
       | inr w ↦ record { complete = runs-complete start cs h.runs d; sound = h.sound; within-nodes = w.0; within-cells = w.1 }
     ]

@@ -108,7 +108,7 @@ first-there ts h q = go (at q ts) (times-firsts q ts) (h q)
   where
     go : (vs : List Value) → times q (firsts ts) ≡ cond (is_nil vs) 0 1 → (vs ≢ [] → times q (nodes_of ts) ≡ 1) → times q (firsts ts) ≤ times q (nodes_of ts)
     go [] e k = omega arith
-    go (v ∷ vs) e k = let n : times q (nodes_of ts) ≡ 1 = k (λ z. let o : ◌≡◌ {A = ℕ} 0 1 = cc in omega arith) in omega arith
+    go (v ∷ vs) e k = let n : times q (nodes_of ts) ≡ 1 = k (λ z. cc) in omega arith
 
 -- The nodes that have a value are no more than those with a record, if each of them has one.
 pub firsts-few : (ts : List Entry) → ((q : Path) → at q ts ≢ [] → times q (nodes_of ts) ≡ 1) → length (firsts ts) ≤ length (nodes_of ts)

@@ -16,17 +16,18 @@ abbrev pub has : Path → List Path → Bool
 has p [] = false
 has p (q ∷ qs) = same p q || has p qs
 
-total_mono : (g h : Path → ℕ) → ((q : Path) → h q ≤ g q) → (qs : List Path) → total h qs ≤ total g qs
-total_mono g h le [] = omega arith
-total_mono g h le (q ∷ qs) = omega (arith, le q, total_mono g h le qs)
+-- a sum of terms that are no greater
+pub total_mono : {X : Type 0} (f g : X → ℕ) → ((x : X) → f x ≤ g x) → (xs : List X) → total f xs ≤ total g xs
+total_mono f g le [] = omega arith
+total_mono f g le (x ∷ xs) = omega (arith, le x, total_mono f g le xs)
 
 -- one term is lowered
 lowered : (g h : Path → ℕ) → ((q : Path) → h q ≤ g q) → (p : Path) (qs : List Path) → has p qs ≡ true → total h qs + g p ≤ h p + total g qs
-lowered g h le p [] e = let z : ◌≡◌ {A = ℕ} 0 1 = cc in absurd (omega arith)
+lowered g h le p [] e = cc
 lowered g h le p (q ∷ qs) e = go (same p q) refl e (lowered g h le p qs)
   where
     go : (b : Bool) → same p q ≡ b → (b || has p qs) ≡ true → (has p qs ≡ true → total h qs + g p ≤ h p + total g qs) → total h (q ∷ qs) + g p ≤ h p + total g (q ∷ qs)
-    go true s k ih = omega (arith, total_mono g h le qs, ap g (same_true p q s), ap h (same_true p q s))
+    go true s k ih = omega (arith, total_mono h g le qs, ap g (same_true p q s), ap h (same_true p q s))
     go false s k ih = omega (arith, le q, ih k)
 
 has-others : (r p : Path) (qs : List Path) → same r p ≡ false → has p qs ≡ true → has p (others r qs) ≡ true
@@ -166,7 +167,7 @@ some-less g p [] = omega arith
 some-less g p (q ∷ qs) = let h = some-less g p qs in grind arith
 
 one_less : (g : Path → ℕ) (p : Path) (qs : List Path) → has p qs ≡ true → g p + total g (others p qs) ≤ total g qs
-one_less g p [] e = let z : ◌≡◌ {A = ℕ} 0 1 = cc in absurd (omega arith)
+one_less g p [] e = cc
 one_less g p (q ∷ qs) e = go (same p q) refl e (one_less g p qs)
   where
     go : (b : Bool) → same p q ≡ b → (b || has p qs) ≡ true → (has p qs ≡ true → g p + total g (others p qs) ≤ total g qs)
@@ -202,7 +203,7 @@ cells-by-node (d ∷ es) =
 -- ---- what holds of each node that has values holds of each path
 
 all-has : (P : Path → Type 0) (p : Path) (qs : List Path) → has p qs ≡ true → AllByRecursion P qs → P p
-all-has P p [] e a = let z : ◌≡◌ {A = ℕ} 0 1 = cc in absurd (omega arith)
+all-has P p [] e a = cc
 all-has P p (q ∷ qs) e a = go (same p q) refl e (all-has P p qs)
   where
     go : (b : Bool) → same p q ≡ b → (b || has p qs) ≡ true → (has p qs ≡ true → AllByRecursion P qs → P p) → P p

@@ -1,5 +1,6 @@
 pub mod Calls
 pub mod Refusals
+pub mod Words
 pub mod Said
 pub mod Numbers
 pub mod Nodes

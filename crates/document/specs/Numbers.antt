@@ -32,3 +32,7 @@ Is (answers.Seq m) k n = ⊥
 Is (answers.Map m) k n = ⊥
 Is answers.Tuple k n = ⊥
 Is answers.End k n = ⊥
+
+-- an answer that is no number
+abbrev pub NoNumberIn : Answer → Type 0
+NoNumberIn a = (k : Scalar) (b : ℕ) → Is a k b → ⊥

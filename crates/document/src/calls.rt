@@ -11,7 +11,7 @@ use crate::questions::Question;
 use crate::scalars::Scalar;
 
 /// A call: a value, or the end of a seq, map or tuple.
-#[derive(Clone, Copy)]
+#[derive(Clone, Copy, PartialEq, Eq, Debug)]
 pub enum Call<'a> {
     Bool(bool),
     U8(u8),
@@ -68,46 +68,16 @@ impl Call<'_> {
         ensures { MatchOption result (NoNumber (said self.entry)) (λ n. said self.entry ≡ val (scalar n.kind n.bits)) }
     {
         match self {
-            Call::Bool(b) => Some(Number {
-                kind: Scalar::Bool,
-                bits: u64::from(b),
-            }),
-            Call::U8(n) => Some(Number {
-                kind: Scalar::U8,
-                bits: u64::from(n),
-            }),
-            Call::U16(n) => Some(Number {
-                kind: Scalar::U16,
-                bits: u64::from(n),
-            }),
-            Call::U32(n) => Some(Number {
-                kind: Scalar::U32,
-                bits: u64::from(n),
-            }),
-            Call::U64(n) => Some(Number {
-                kind: Scalar::U64,
-                bits: n,
-            }),
-            Call::I8(z) => Some(Number {
-                kind: Scalar::I8,
-                bits: u64::from(z.cast_unsigned()),
-            }),
-            Call::I16(z) => Some(Number {
-                kind: Scalar::I16,
-                bits: u64::from(z.cast_unsigned()),
-            }),
-            Call::I32(z) => Some(Number {
-                kind: Scalar::I32,
-                bits: u64::from(z.cast_unsigned()),
-            }),
-            Call::I64(z) => Some(Number {
-                kind: Scalar::I64,
-                bits: z.cast_unsigned(),
-            }),
-            Call::F32(n) => Some(Number {
-                kind: Scalar::F32,
-                bits: u64::from(n),
-            }),
+            Call::Bool(b) => Some(b.into()),
+            Call::U8(n) => Some(n.into()),
+            Call::U16(n) => Some(n.into()),
+            Call::U32(n) => Some(n.into()),
+            Call::U64(n) => Some(n.into()),
+            Call::I8(z) => Some(z.into()),
+            Call::I16(z) => Some(z.into()),
+            Call::I32(z) => Some(z.into()),
+            Call::I64(z) => Some(z.into()),
+            Call::F32(bits) => Some(Number::float(bits)),
             _ => None,
         }
     }

@@ -16,6 +16,7 @@ pub enum Law {
 }
 
 /// The open places take exactly the beginnings of documents, and are done exactly at documents.
+// Stays: a function for each law, since the contract of each is another law.
 pub fn grammar() -> Law
     ensures answer { result ≡ Law.Grammar }
     ensures law { Grammatical }

@@ -3,6 +3,7 @@
 
 pub mod calls;
 pub mod laws;
+pub mod limits;
 pub mod numbers;
 pub mod questions;
 pub mod refusals;

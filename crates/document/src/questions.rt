@@ -1,6 +1,7 @@
 //! The questions that a reader is asked, and its answers.
 
-ghost use Rattle.document.specs.Numbers.{Is};
+ghost use Rattle.std.specs.Prelude.{MatchOption};
+ghost use Rattle.document.specs.Numbers.{Is, NoNumberIn};
 
 use crate::numbers::Number;
 use crate::scalars::Scalar;
@@ -45,10 +46,32 @@ pub enum Answer {
 }
 
 impl Answer {
-    /// The answer that is this number.
-    pub fn of_number(number: Number) -> Answer
-        ensures { Is result number.kind number.bits }
+    /// The number that this answer is, by its bits; none where it is no number.
+    // Stays: a match for each of the two public types; one generic type in place of calls and answers would be no plainer to their users.
+    pub fn number(self) -> Option<Number>
+        ensures { MatchOption result (NoNumberIn self) (λ n. Is self n.kind n.bits) }
     {
+        match self {
+            Answer::Bool(b) => Some(b.into()),
+            Answer::U8(n) => Some(n.into()),
+            Answer::U16(n) => Some(n.into()),
+            Answer::U32(n) => Some(n.into()),
+            Answer::U64(n) => Some(n.into()),
+            Answer::I8(z) => Some(z.into()),
+            Answer::I16(z) => Some(z.into()),
+            Answer::I32(z) => Some(z.into()),
+            Answer::I64(z) => Some(z.into()),
+            Answer::F32(bits) => Some(Number::float(bits)),
+            _ => None,
+        }
+    }
+}
+
+/// The answer that is this number.
+impl From<Number> for Answer {
+    ghost from_gives = { λ n a. Is a n.kind n.bits };
+
+    fn from(number: Number) -> Answer {
         match number.kind {
             Scalar::Bool => Answer::Bool(number.bits == 1),
             Scalar::U8 => Answer::U8(number.bits as u8),

@@ -1,9 +1,12 @@
 //! Every refusal, and its number.
 
-ghost use Rattle.std.specs.Prelude.{◌≡◌};
+ghost use Rattle.std.specs.Prelude.{◌≡◌, [], ◌++◌, codes, decimal, MatchOption, Some};
 ghost use Rattle.document.specs.Refusals.{number_of, of_fault};
+ghost use Rattle.document.specs.Words.{words_of, place_words, refusal_text};
 
 use column::fault::{Cause, Fault};
+use std::error::Error;
+use std::fmt;
 
 /// Why a call or a question was refused. Checks run in the order of the numbers.
 #[derive(Clone, Copy, PartialEq, Eq, Debug)]
@@ -50,6 +53,7 @@ pub enum Refusal {
 
 impl Refusal {
     /// The number of a refusal.
+    // Stays: that a refusal has a number, which this method tells, is the project's rule.
     pub fn number(self) -> u8
         ensures { result ≡ number_of self }
     {
@@ -76,6 +80,7 @@ impl Refusal {
     }
 
     /// The refusal that a column's fault makes, with the column's number.
+    // Stays: it takes two things, and a `From` of a pair would be no plainer, since `?` has no column to put beside the fault.
     pub fn of_fault(fault: Fault, column: u32) -> Refusal
         ensures { result ≡ of_fault fault column }
     {
@@ -91,4 +96,63 @@ impl Refusal {
             },
         }
     }
+
+    /// What a refusal says, without its number and its place.
+    fn words(self) -> &'static str
+        ensures { result.now ≡ words_of self }
+    {
+        match self {
+            Refusal::Complete => "COMPLETE, the document has its value already",
+            Refusal::Count =>
+                "COUNT, an end before the declared number of values, or a value past it",
+            Refusal::Depth => "DEPTH, more than 32 open places",
+            Refusal::Kind => "KIND, the node is of another kind",
+            Refusal::Index => "INDEX, a variant above 255",
+            Refusal::Nodes => "NODES, too few node records",
+            Refusal::Cells => "CELLS, too few cells or slots",
+            Refusal::Short { .. } => "SHORT, the input ends too early",
+            Refusal::Past => "PAST, a text that passes the input",
+            Refusal::Bad { .. } => "BAD, bytes that stand for no value",
+            Refusal::Sum => "SUM, the lengths at a node come to too much",
+            Refusal::Text => "TEXT, bytes that are no text",
+            Refusal::TextTable => "TEXT TABLE, too few bytes for text",
+            Refusal::Option => "OPTION, neither none nor some",
+            Refusal::NoSize => "NO SIZE, too many elements that take no memory",
+            Refusal::Early => "EARLY, the document is not complete",
+            Refusal::Scratch => "SCRATCH, fewer elements than cells taken",
+            Refusal::Room => "ROOM, more bytes than the output has",
+            Refusal::Left => "LEFT, bytes after the document",
+        }
+    }
+
+    /// The layer and the column of a column's fault.
+    fn place(self) -> Option<(u16, u32)>
+        ensures { MatchOption result (place_words self ≡ []) (λ p. place_words self ≡ codes ", in column " ++ decimal p.1 ++ codes " at layer " ++ decimal p.0) }
+    {
+        match self {
+            Refusal::Short { layer, column } | Refusal::Bad { layer, column } => Some((
+                layer, column,
+            )),
+            _ => None,
+        }
+    }
 }
+
+/// A refusal in words, with its number, and the column and the layer of a column's fault.
+impl fmt::Display for Refusal {
+    ghost output = { λ refusal. Some (refusal_text refusal) };
+
+    fn fmt<W: fmt::Write>(&self, f: &mut fmt::Formatter<W>) -> fmt::Result {
+        let words = self.words();
+        let number = self.number();
+        match self.place() {
+            Some((layer, column)) => write!(
+                f,
+                "{words}, in column {column} at layer {layer}; refusal {number}"
+            ),
+            None => write!(f, "{words}; refusal {number}"),
+        }
+    }
+}
+
+impl Error for Refusal {}

@@ -8,3 +8,4 @@ pub mod Placing
 pub mod Aiming
 pub mod Seeking
 pub mod Refill
+pub mod Adding

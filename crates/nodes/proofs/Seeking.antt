@@ -1,6 +1,6 @@
 -- A search among the children of a record.
-use Rattle.std.proofs.Common.{◌≡◌, ℕ, ◌+◌, ◌<◌, ◌≤◌, Bool, true, false, cond, eqb, ◌⊎◌, List, [], ◌∷◌, map, length, get_or, sym, refl, ap, ◌∙◌, subst, inl, inr, ⊎_elim, one-add, arith}
-use Rattle.std.specs.List.{AllByRecursion}
+use Rattle.std.proofs.Common.{◌≡◌, ℕ, zero, suc, ◌+◌, ◌<◌, ◌≤◌, Bool, true, false, cond, eqb, ◌⊎◌, List, [], ◌∷◌, map, length, get_or, Option, None, Some, MatchOption, unwrap_or, sym, refl, ap, ◌∙◌, subst, inl, inr, ⊎_elim, one-add, arith}
+use Rattle.std.specs.List.{AllByRecursion, AllWithin, HoldsAt}
 use Rattle.std.proofs.lemmas.List.{get_or-map}
 use Rattle.std.proofs.lemmas.Bool.{cond-true, cond-false, eq-eqb, ne_eqb, eqb-true, eqb-false, cases_lt}
 use Rattle.document.specs.Nodes.{Path, root, ◌▹◌, Step, alt}
@@ -16,14 +16,39 @@ use Rattle.nodes.proofs.Homes.{home-times}
 pub index_at : {R : Type 0} (index_of : R → ℕ) (table : List R) (k : ℕ) (x : R) → k < length table → x ≡ get_or table k x → index_of x ≡ get_or (map index_of table) k 0
 index_at index_of table k x l e = ap index_of e ∙ sym (get_or-map index_of table k x 0 l)
 
-module _ (indices : List ℕ) (i k : ℕ) (all rest : List ℕ) (x : ℕ) (e : all ≡ k ∷ rest) (at : x ≡ get_or indices k 0) where
-  -- A record with another index is passed over.
-  pub seek-past : (x ≡ i → ⊥) → seek indices i rest ≡ seek indices i all
-  seek-past ne = sym (ap (seek indices i) e ∙ cond-false (eqb (get_or indices k 0) i) _ _ (ne_eqb _ i (λ z. ne (at ∙ z))))
+module _ {R : Type 0} (index_of : R → ℕ) (table : List R) (i : ℕ) where
+  -- The record at k has the index, or another one.
+  abbrev pub Hit : ℕ → Type 0
+  Hit k = (x : R) × (x ≡ get_or table k x) × (index_of x ≡ i)
 
-  -- The first with the index is found.
-  pub seek-here : x ≡ i → k ≡ seek indices i all
-  seek-here z = sym (ap (seek indices i) e ∙ cond-true (eqb (get_or indices k 0) i) _ _ (eq-eqb _ i (sym at ∙ z)))
+  abbrev pub Miss : ℕ → Type 0
+  Miss k = (x : R) × (x ≡ get_or table k x) × (index_of x ≡ i → ⊥)
+
+  hit : (k : ℕ) → k < length table → Hit k → eqb (get_or (map index_of table) k 0) i ≡ true
+  hit k l (x, at, e) = eq-eqb _ i (sym (index_at index_of table k x l at) ∙ e)
+
+  miss : (k : ℕ) → k < length table → Miss k → eqb (get_or (map index_of table) k 0) i ≡ false
+  miss k l (x, at, e) = ne_eqb _ i (λ z. e (index_at index_of table k x l at ∙ z))
+
+  -- None of the records has the index.
+  seek-none : (ks : List ℕ) → AllByRecursion (λ k. k < length table) ks → AllWithin Miss ks 0 (length ks) → 0 ≡ seek (map index_of table) i ks
+  seek-none [] w m = refl
+  seek-none (k ∷ ks) (w, ws) m =
+      seek-none ks ws (λ j d a b. m (suc j) d (omega arith) (omega arith)) ∙ sym (cond-false _ k _ (miss k w (m 0 k (omega arith) (omega arith))))
+
+  -- One has it, and none before.
+  seek-some : (ks : List ℕ) (y j : ℕ) → AllByRecursion (λ k. k < length table) ks → Hit y → j < length ks → HoldsAt (λ z. z ≡ y) ks j → AllWithin Miss ks 0 j → y ≡ seek (map index_of table) i ks
+  seek-some [] y j w h l at m = absurd (omega arith)
+  seek-some (k ∷ ks) y zero (w, ws) h l at m = sym (at k) ∙ sym (cond-true _ k _ (hit k w (subst Hit (sym (at k)) h)))
+  seek-some (k ∷ ks) y (suc j) (w, ws) h l at m =
+      seek-some ks y j ws h (omega arith) at (λ n d a b. m (suc n) d (omega arith) (omega arith)) ∙ sym (cond-false _ k _ (miss k w (m 0 k (omega arith) (omega arith))))
+
+  -- What a search over the records finds is what is to be found.
+  pub seek-first : (ks : List ℕ) (r : Option ℕ) → AllByRecursion (λ k. k < length table) ks
+      → MatchOption r (AllWithin Miss ks 0 (length ks)) (λ y. Hit y × (j : ℕ) × (j < length ks) × HoldsAt (λ z. z ≡ y) ks j × AllWithin Miss ks 0 j)
+      → unwrap_or r 0 ≡ seek (map index_of table) i ks
+  seek-first ks None w m = seek-none ks w m
+  seek-first ks (Some y) w m = seek-some ks y m.1 w m.0 m.2 m.3 m.4
 
 -- The first of some records with an index: there is none and the answer is 0, or it is one of them and has the index.
 pub seek_found : (indices : List ℕ) (i : ℕ) (P : ℕ → Type 0) (ks : List ℕ) → AllByRecursion P ks
@@ -40,7 +65,7 @@ seek_found indices i P (k ∷ ks) (p, ps) = go (eqb (get_or indices k 0) i) refl
 
 -- A node that counts as a child of p is p with one step more.
 pub child-step : (p q : Path) → is_child p q ≡ true → (s : Step) × (q ≡ p ▹ s)
-child-step p root e = let z : ◌≡◌ {A = ℕ} 0 1 = cc in absurd (omega arith)
+child-step p root e = cc
 child-step p (q ▹ s) e = (s, ap (λ o. o ▹ s) (same_true q p e))
 
 -- Each record among a node's children is some child's.

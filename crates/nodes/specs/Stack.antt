@@ -1,5 +1,5 @@
 -- The open places, as a list of states.
-use Rattle.std.specs.Prelude.{ℕ, zero, suc, ◌-◌, List, [], ◌∷◌, Option, slice_index_or, slice_set}
+use Rattle.std.specs.Prelude.{ℕ, zero, suc, ◌-◌, Bool, true, List, [], ◌∷◌, Option, nat_lt, slice_index_or, slice_set}
 use Rattle.std.specs.declared.option.Option.TheVariants as options
 use Rattle.nodes.specs.declared.places.State.{State}
 use Rattle.nodes.specs.declared.places.State.TheVariants.{Root, Items, Keys, Vals, Fields, Lone, One, Closing}
@@ -43,6 +43,11 @@ settled (Closing ∷ ss) = settled ss
 abbrev pub opening : Option State → List State → List State
 opening options.None ss = ss
 opening (options.Some s) ss = s ∷ ss
+
+-- whether there is room for a place more, where one is opened, beside so many open ones
+abbrev pub has_room : Option State → ℕ → Bool
+has_room options.None depth = true
+has_room (options.Some s) depth = nat_lt depth 32
 
 -- those below the innermost
 abbrev pub rest : List State → List State

@@ -8,7 +8,8 @@ ghost use Rattle.nodes.specs.Marks.{mark_number, unsigned, family_of, mark_of};
 use document::scalars::Scalar;
 
 /// What a node is marked as by the first value that stands there.
-#[derive(Clone, Copy)]
+// Stays: a case for a node without a mark; an `Option` would stand round the mark in each record and each match, and say no more.
+#[derive(Clone, Copy, PartialEq, Eq, Debug)]
 pub enum Mark {
     Unmarked,
     Scalar(Scalar),
@@ -21,38 +22,6 @@ pub enum Mark {
 }
 
 impl Mark {
-    /// Marks by number, each its own.
-    pub fn number(self) -> u64
-        ensures { result ≡ mark_number self }
-    {
-        match self {
-            Mark::Unmarked => 0,
-            Mark::Scalar(Scalar::Bool) => 1,
-            Mark::Scalar(Scalar::U8) => 2,
-            Mark::Scalar(Scalar::U16) => 3,
-            Mark::Scalar(Scalar::U32) => 4,
-            Mark::Scalar(Scalar::U64) => 5,
-            Mark::Scalar(Scalar::I8) => 6,
-            Mark::Scalar(Scalar::I16) => 7,
-            Mark::Scalar(Scalar::I32) => 8,
-            Mark::Scalar(Scalar::I64) => 9,
-            Mark::Scalar(Scalar::F32) => 10,
-            Mark::Text => 11,
-            Mark::Seq => 12,
-            Mark::Map => 13,
-            Mark::Enum => 14,
-            Mark::Unit => 15,
-            Mark::Tuple(n) => 16 + u64::from(n),
-        }
-    }
-
-    /// Whether two marks are the same.
-    pub fn is(self, other: Mark) -> bool
-        ensures { result ≡ (mark_number self == mark_number other) }
-    {
-        self.number() == other.number()
-    }
-
     /// The mark of unsigned numbers in place of signed ones of the same width.
     fn unsigned(self) -> Mark
         ensures { result ≡ unsigned self }
@@ -71,7 +40,7 @@ impl Mark {
         ensures answer { result ≡ (mark_number (unsigned self) == mark_number (unsigned other)) }
         ensures kinds { (J K : Kind) → self ≡ mark_of J → other ≡ mark_of K → result ≡ kin J K }
     {
-        self.unsigned().is(other.unsigned())
+        self.unsigned() == other.unsigned()
     }
 
     /// How many children come with the mark.

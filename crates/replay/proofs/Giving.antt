@@ -1,8 +1,7 @@
 -- Calls given to a writer one after another.
 use Rattle.std.specs.Vec.{vec_items}
-use Rattle.std.proofs.Common.{◌≡◌, ℕ, suc, ◌+◌, ◌<◌, ◌≤◌, Bool, true, false, cond, List, [], ◌∷◌, ◌++◌, length, get_or, set, take, drop, ltb, vec_len, is_ok, Ok, Err, Result, sym, refl, ap, ◌∙◌, subst, add-one, append_assoc, arith, drop-cons}
-use Rattle.std.proofs.lemmas.List.{append-nil, take_more_set, take_all, drop-set-lt, drop-drop, length-set}
-use Rattle.std.proofs.Math.ListN.{drop_of_length-le}
+use Rattle.std.proofs.Common.{◌≡◌, ℕ, suc, ◌+◌, ◌<◌, Bool, true, false, cond, List, [], ◌∷◌, ◌++◌, length, get_or, set, take, drop, ltb, is_ok, Ok, Err, Result, sym, refl, ap, ◌∙◌, subst, add-one, append_assoc, arith, drop-cons}
+use Rattle.std.proofs.lemmas.List.{take_more_set, drop-set-lt, drop-drop, length-set}
 use Rattle.std.proofs.lemmas.Bool.{cond-true, cond-false}
 use Rattle.document.specs.declared.refusals.Refusal.{Refusal}
 use Rattle.document.specs.declared.calls.Call.TheVariants as spoken
@@ -42,10 +41,6 @@ pub record Giving (old : Writer) (all : List Step) (w : Writer) (steps : List St
   pub size : length steps ≡ length all
   pub rest : drop i steps ≡ drop i all
   pub went : (cs : List Call) → Stands (desk_of old) cs → Given old all w steps i cs
-
--- before the first
-pub gives-none : (w : Writer) (all : List Step) → Giving w all w all 0
-gives-none w all = record { size = refl; rest = refl; went = λ cs st. record { done = cs; stands = st; sizes = refl; kept_on = refl; marked_on = refl } }
 
 -- one more
 pub gives-more : (old w v : Writer) (all steps : List Step) (i : ℕ) (r : Result (Unit {0}) Refusal) (b : Bool) → i < length all → Giving old all w steps i
@@ -97,23 +92,10 @@ gives-more old w v all steps i r b l g told accepted =
               ∙ d.marked_on;
         }
 
--- all of them
-pub gives-all : (old w : Writer) (all steps : List Step) (i : ℕ) → length all ≤ i → Giving old all w steps i → (cs : List Call) → Stands (desk_of old) cs
-    → Stands (desk_of w) (kept (sizes_at old) cs (calls_of all)) × (steps ≡ marked (sizes_at old) cs all) × (sizes_at w ≡ sizes_at old)
-gives-all old w all steps i l g cs st =
-    let d = g.went cs st in
-    let none = drop_of_length-le all l in
-    let kept_is : d.done ≡ kept (sizes_at old) cs (calls_of all) = sym (ap (λ xs. kept (sizes_at old) d.done (calls_of xs)) none) ∙ d.kept_on in
-    let whole : take i steps ≡ steps = take_all i steps (omega (arith, g.size)) in (
-      subst (Stands (desk_of w)) kept_is d.stands,
-      sym (append-nil steps) ∙ ap (λ xs. xs ++ []) (sym whole) ∙ sym (ap (λ xs. take i steps ++ marked (sizes_at old) d.done xs) none) ∙ d.marked_on,
-      d.sizes,
-    )
-
 -- a new writer has tables of the same lengths
-pub new-sizes : (w : Writer) (t : Parts) → vec_items w.desk.tables.nodes ≡ cond (ltb 1 (vec_len t.nodes)) (set (vec_items t.nodes) 1 blank_node) (vec_items t.nodes) → w.desk.tables.cells ≡ t.cells → w.desk.tables.text ≡ t.text → sizes_at w ≡ sizes_for t
+pub new-sizes : (w : Writer) (t : Parts) → vec_items w.desk.tables.nodes ≡ cond (ltb 1 (length (vec_items t.nodes))) (set (vec_items t.nodes) 1 blank_node) (vec_items t.nodes) → w.desk.tables.cells ≡ t.cells → w.desk.tables.text ≡ t.text → sizes_at w ≡ sizes_for t
 new-sizes w t n c x =
-    ap (λ k. let z : Sizes = record { nodes = k; cells = length (vec_items w.desk.tables.cells); text = length (vec_items w.desk.tables.text) } in z) (ap length n ∙ same (ltb 1 (vec_len t.nodes)))
+    ap (λ k. let z : Sizes = record { nodes = k; cells = length (vec_items w.desk.tables.cells); text = length (vec_items w.desk.tables.text) } in z) (ap length n ∙ same (ltb 1 (length (vec_items t.nodes))))
     ∙ ap (λ v. let z : Sizes = record { nodes = length (vec_items t.nodes); cells = length (vec_items v); text = length (vec_items w.desk.tables.text) } in z) c
     ∙ ap (λ v. let z : Sizes = record { nodes = length (vec_items t.nodes); cells = length (vec_items t.cells); text = length (vec_items v) } in z) x
   where

@@ -75,28 +75,6 @@ number_call (answers.Map m) k b input n h = absurd h
 number_call answers.Tuple k b input n h = absurd h
 number_call answers.End k b input n h = absurd h
 
--- an answer is a number of one kind only
-pub one_kind : (a : Answer) (j k : Scalar) (m n : ℕ) → Is a j m → Is a k n → j ≡ k
-one_kind (answers.Bool b) j k m n (e, f) (g, h) = e ∙ sym g
-one_kind (answers.U8 x) j k m n (e, f) (g, h) = e ∙ sym g
-one_kind (answers.U16 x) j k m n (e, f) (g, h) = e ∙ sym g
-one_kind (answers.U32 x) j k m n (e, f) (g, h) = e ∙ sym g
-one_kind (answers.U64 x) j k m n (e, f) (g, h) = e ∙ sym g
-one_kind (answers.I8 z) j k m n (e, f) (g, h) = e ∙ sym g
-one_kind (answers.I16 z) j k m n (e, f) (g, h) = e ∙ sym g
-one_kind (answers.I32 z) j k m n (e, f) (g, h) = e ∙ sym g
-one_kind (answers.I64 z) j k m n (e, f) (g, h) = e ∙ sym g
-one_kind (answers.F32 x) j k m n (e, f) (g, h) = e ∙ sym g
-one_kind (answers.Text place size) j k m n h g = absurd h
-one_kind answers.Unit j k m n h g = absurd h
-one_kind answers.None j k m n h g = absurd h
-one_kind answers.Some j k m n h g = absurd h
-one_kind (answers.Variant i) j k m n h g = absurd h
-one_kind (answers.Seq x) j k m n h g = absurd h
-one_kind (answers.Map x) j k m n h g = absurd h
-one_kind answers.Tuple j k m n h g = absurd h
-one_kind answers.End j k m n h g = absurd h
-
 -- what is heard of an answer is the call that it makes
 hears_call : (a : Answer) (d : Call) (place : ℕ) (input : List ℕ) → Answers a d place → hearing input d place ≡ call_of a input (size_of d)
 unfolding call_of

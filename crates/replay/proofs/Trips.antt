@@ -22,14 +22,12 @@ use Rattle.ser.specs.Out.{begins, wrote, output_after}
 use Rattle.ser.specs.Standing.{WrittenOut}
 use Rattle.de.specs.Standing.{ended}
 use Rattle.replay.specs.declared.steps.Step.{Step}
-use Rattle.replay.specs.declared.trip.Ending.{Ending}
-use Rattle.replay.specs.declared.trip.Ending.TheVariants.{Same}
+use Rattle.replay.specs.declared.trip.Mismatch.{Mismatch}
 use Rattle.replay.specs.Given.{calls_of, takes, given, kept, marked}
 use Rattle.replay.specs.Listening.{Asking, askings, ending_of, Listened, Listens}
 use Rattle.replay.specs.declared.trip.Heard.{Heard}
 use Rattle.replay.specs.Trips.{called, FlagFits, Flagged, ReadBack, ComesBack}
 use Rattle.replay.specs.Compared.{WroteBoth, SameBytes, ToldApart}
-use Rattle.std.proofs.lemmas.Bool.{true≢false}
 
 -- ---- what is kept is what is asked for
 
@@ -68,29 +66,29 @@ first_heard c d (heard ds (b ∷ bs)) cs e = (cc, cc)
 first_heard c d (stopped r) cs e = (cc, cc)
 
 -- where nothing is left, finish is accepted
-ends_same : (fs : List Place) (bs : List ℕ) → finish (ending fs bs) ≡ heard [] [] → ending_of (ended fs bs) ≡ Same
+ends_same : (fs : List Place) (bs : List ℕ) → finish (ending fs bs) ≡ heard [] [] → ending_of (ended fs bs) ≡ Ok tt
 ends_same [] [] e = refl
 ends_same [] (b ∷ bs) e = cc
 ends_same (f ∷ fs) bs e = cc
 
 -- one question, and those after it
-heard_first : (input : List ℕ) (c : Call) (cs : List Call) (later : Reading → Replay) (More : Reading → ℕ → Type 0) (k n : ℕ) (e : Ending) (x : Reply)
-    → ((R : Reading) (m : ℕ) → finish (later R) ≡ heard cs [] → More R m → (m ≡ k) × (e ≡ Same))
-    → finish (going input x later) ≡ heard (c ∷ cs) [] → Listened input c More n e x → (n ≡ suc k) × (e ≡ Same)
+heard_first : (input : List ℕ) (c : Call) (cs : List Call) (later : Reading → Replay) (More : Reading → ℕ → Type 0) (k n : ℕ) (e : Result (Unit {0}) Mismatch) (x : Reply)
+    → ((R : Reading) (m : ℕ) → finish (later R) ≡ heard cs [] → More R m → (m ≡ k) × (e ≡ Ok tt))
+    → finish (going input x later) ≡ heard (c ∷ cs) [] → Listened input c More n e x → (n ≡ suc k) × (e ≡ Ok tt)
 heard_first input c cs later More k n e (refuse r) more h l = (cc, cc)
 heard_first input c cs later More k n e (reply d place R) more h (inl (is, (m, count, l))) =
     let (same, end_is) = more R m (first_heard (hearing input d place) c (later R) cs h).1 l in (count ∙ ap suc same, end_is)
 heard_first input c cs later More k n e (reply d place R) more h (inr (not, count, is)) = absurd (not (first_heard (hearing input d place) c (later R) cs h).0)
 
 -- of a reading that hears the calls, all is heard
-all_from : (col : Meaning) (input : List ℕ) (xs : List Asking) (R : Reading) (n : ℕ) (e : Ending) → finish (replay col input R (questions_of xs)) ≡ heard (called xs) [] → Listens col input R xs n e → (n ≡ length xs) × (e ≡ Same)
+all_from : (col : Meaning) (input : List ℕ) (xs : List Asking) (R : Reading) (n : ℕ) (e : Result (Unit {0}) Mismatch) → finish (replay col input R (questions_of xs)) ≡ heard (called xs) [] → Listens col input R xs n e → (n ≡ length xs) × (e ≡ Ok tt)
 all_from col input [] R n e h l = (l.0, l.1 ∙ ends_same R.places R.store.input h)
 all_from col input (a ∷ xs) R n e h l =
     heard_first input a.call (called xs) (λ S. replay col input S (questions_of xs)) (λ S m. Listens col input S xs m e) (length xs) n e (answer col R.store R.places (asked a.flag a.call)) (λ S m. all_from col input xs S m e) h l
 
 -- the bytes of an accepted document, read back by a reader with tables no smaller than the writer's: each answer is its call's value, and finish is accepted
 pub all_heard : (col : Meaning) → Lawful col → Replays → (sizes : Sizes) (xs : List Asking) → Accepted sizes (called xs) → Done (called xs) → Flagged xs → (nodes slots : ℕ) → sizes.nodes ≤ nodes → sizes.cells ≤ slots
-    → (n : ℕ) (e : Ending) → Listens col (bytes col (called xs)) (begin nodes slots (bytes col (called xs))) xs n e → (n ≡ length xs) × (e ≡ Same)
+    → (n : ℕ) (e : Result (Unit {0}) Mismatch) → Listens col (bytes col (called xs)) (begin nodes slots (bytes col (called xs))) xs n e → (n ≡ length xs) × (e ≡ Ok tt)
 all_heard col law replays sizes xs a d f nodes slots p q n e l =
     all_from col (bytes col (called xs)) xs (begin nodes slots (bytes col (called xs))) n e (replays col law sizes (called xs) a d (questions_of xs) (asks_all xs f) nodes slots p q) l
 
@@ -148,5 +146,5 @@ told_apart col law sizes cs ds ac ad scratch scratch' one one' other other' r s 
         let (d', y, part') = written_ok col ds between scratch' other other' s m v f in
         let flag : b' ≡ b = cc in
         apart_by_bytes col law faithful sizes sizes cs ds ac ad d d' alike b (subst (λ z. Decides z (bytes col cs ≡ bytes col ds)) flag (λ o. sym part ∙ t.0 o ∙ part', λ o. t.1 (part ∙ o ∙ sym part')))
-    go (Ok n) (Err x) e f q = let wrong : true ≡ false = cc in absurd (true≢false wrong)
-    go (Err x) s' e f q = let wrong : true ≡ false = cc in absurd (true≢false wrong)
+    go (Ok n) (Err x) e f q = cc
+    go (Err x) s' e f q = cc

@@ -42,3 +42,11 @@ sizes_for t = record { nodes = length (vec_items t.nodes); cells = length (vec_i
 abbrev pub marked : Sizes → List Call → List Step → List Step
 marked sizes done [] = []
 marked sizes done (s ∷ ss) = record { call = s.call; no_size = s.no_size; accepted = takes sizes done (said s.call) } ∷ marked sizes (given sizes done (said s.call)) ss
+
+-- the steps, marked with what a new writer over these tables answers
+abbrev pub marked_for : Parts → List Step → List Step
+marked_for tables ss = marked (sizes_for tables) [] ss
+
+-- the calls of some steps that a new writer over these tables accepts
+abbrev pub accepted_calls : Parts → List Step → List Call
+accepted_calls tables ss = kept (sizes_for tables) [] (calls_of ss)

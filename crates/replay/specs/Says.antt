@@ -1,14 +1,9 @@
 -- An answer is a call's value.
 use Rattle.std.specs.Prelude.{◌≡◌, ℕ, ◌+◌, ◌≤◌, List, length, take, drop}
-use Rattle.document.specs.declared.scalars.Scalar.{Scalar}
 use Rattle.document.specs.declared.questions.Answer.{Answer}
 use Rattle.document.specs.declared.questions.Answer.TheVariants as answers
 use Rattle.document.specs.Calls.{scalar, text, unit, none, some, variant, seq, map, tuple, Call, val, end}
 use Rattle.document.specs.Numbers.{Is}
-
--- an answer that is no number
-abbrev pub NoNumber : Answer → Type 0
-NoNumber a = (k : Scalar) (b : ℕ) → Is a k b → ⊥
 
 -- an answer names a part of the input, and that is the text
 pub record Names (a : Answer) (bs input : List ℕ) : Type 0 where

@@ -5,7 +5,6 @@ use Rattle.document.specs.declared.refusals.Refusal.{Refusal}
 use Rattle.document.specs.Calls.{extent, Call, val, end}
 use Rattle.document.specs.Verdict.{Sizes}
 use Rattle.document.specs.Reader.{begin}
-use Rattle.replay.specs.declared.trip.Ending.TheVariants.{Same}
 use Rattle.replay.specs.declared.trip.Heard.{Heard}
 use Rattle.replay.specs.Listening.{Asking, Listens}
 
@@ -32,4 +31,4 @@ ReadBack col output nodes slots xs (Ok n) h = (x : Heard) × (h ≡ Some x) × L
 -- where the reader's tables are no smaller than the writer's, and each flag fits its call.
 abbrev pub ComesBack : Sizes → ℕ → ℕ → List Asking → Result ℕ Refusal → Option Heard → Type 0
 ComesBack sizes nodes slots xs written h = (n : ℕ) → written ≡ Ok n → Flagged xs → sizes.nodes ≤ nodes → sizes.cells ≤ slots
-    → h ≡ Some (record { count = length xs; ending = Same })
+    → h ≡ Some (record { count = length xs; ending = Ok tt })

@@ -1,10 +1,9 @@
 //! Two lists of calls, told apart by their bytes.
 
 ghost use Rattle.std.specs.Prelude.{◌≡◌, ◌≤◌, List, [], length, IfOk};
-ghost use Rattle.replay.specs.Given.{calls_of, kept, marked, sizes_for};
+ghost use Rattle.replay.specs.Given.{accepted_calls, marked_for, sizes_for};
 ghost use Rattle.replay.specs.Compared.{WroteBoth, SameBytes, ToldApart};
 
-use crate::says::same;
 use crate::steps::Step;
 use crate::write::{Written, write_steps};
 use column::interface::Column;
@@ -32,7 +31,7 @@ fn alike(
     ensures { SameBytes first second one.now other.now result }
 {
     match (first, second) {
-        (Ok(n), Ok(m)) => Some(same(&one[..n], &other[..m])),
+        (Ok(n), Ok(m)) => Some(one[..n] == other[..m]),
         _ => None,
     }
 }
@@ -49,11 +48,11 @@ pub fn same_bytes<C: Column>(
     output: &mut [u8],
     second_output: &mut [u8],
 ) -> Compared
-    ensures one { one.new ≡ marked (sizes_for tables) [] one.old }
-    ensures other { other.new ≡ marked (sizes_for tables) [] other.old }
-    ensures written { WroteBoth (C.meaning kind.now) (kept (sizes_for tables) [] (calls_of one.old)) (kept (sizes_for tables) [] (calls_of other.old)) scratch.old scratch.new output.old output.new second_output.old second_output.new result.first result.second }
+    ensures one { one.new ≡ marked_for tables one.old }
+    ensures other { other.new ≡ marked_for tables other.old }
+    ensures written { WroteBoth (C.meaning kind.now) (accepted_calls tables one.old) (accepted_calls tables other.old) scratch.old scratch.new output.old output.new second_output.old second_output.new result.first result.second }
     ensures same { SameBytes result.first result.second output.new second_output.new result.same }
-    ensures told_apart { ToldApart (kept (sizes_for tables) [] (calls_of one.old)) (kept (sizes_for tables) [] (calls_of other.old)) result.same }
+    ensures told_apart { ToldApart (accepted_calls tables one.old) (accepted_calls tables other.old) result.same }
     ensures tables { sizes_for result.tables ≡ sizes_for tables }
 {
     let Written {

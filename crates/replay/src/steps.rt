@@ -9,6 +9,7 @@ use document::calls::Call;
 pub struct Step<'a> {
     pub call: Call<'a>,
     pub no_size: bool,
+    // Stays: the mark that the writer's answer leaves in the caller's list; the call stands there either way.
     pub accepted: bool,
 }
 

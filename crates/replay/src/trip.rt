@@ -1,11 +1,13 @@
 //! The round trip: what was written is read back, and each answer compared with its call.
 
 ghost use Rattle.std.specs.Prelude.{◌≡◌, List, [], take, vec_len};
-ghost use Rattle.document.specs.Reader.{Reading, begin};
+ghost use Rattle.document.specs.Said.{said, asked};
+ghost use Rattle.document.specs.Reader.{Reading, begin, answer};
 ghost use Rattle.de.specs.Readers.{StandsFor, KeepsLengths};
 ghost use Rattle.ser.specs.Standing.{WrittenOut};
-ghost use Rattle.replay.specs.Given.{calls_of, kept, marked, sizes_for};
-ghost use Rattle.replay.specs.Listening.{askings, Listens};
+ghost use Rattle.replay.specs.Given.{accepted_calls, marked_for, sizes_for};
+ghost use Rattle.replay.specs.Listening.{askings, Listens, Matched};
+ghost use Rattle.replay.specs.declared.trip.Mismatch.TheVariants.{Refused};
 ghost use Rattle.replay.specs.Trips.{ReadBack, ComesBack};
 
 use crate::says::says;
@@ -17,31 +19,54 @@ use de::reader::questions::Parts as ReaderParts;
 use document::refusals::Refusal;
 use ser::writer::calls::Parts as WriterParts;
 
-/// How reading a document back ended.
+/// Why a document that is read back is not what was written.
 #[derive(Clone, Copy, PartialEq, Eq, Debug)]
-pub enum Ending {
-    /// Each question was answered with its call's value, and finish was accepted.
-    Same,
+pub enum Mismatch {
     /// An answer was another value than the call's.
     Other,
     /// A question, or finish, was refused.
     Refused(Refusal),
 }
 
-/// What was heard: how many questions one after another were answered with their call's value, and how it ended.
+impl From<Refusal> for Mismatch {
+    ghost from_gives = { λ refusal mismatch. mismatch ≡ Refused refusal };
+
+    fn from(refusal: Refusal) -> Mismatch {
+        Mismatch::Refused(refusal)
+    }
+}
+
+/// What was heard: how many questions one after another were answered with their call's value, and whether each was and finish was accepted.
 #[derive(Clone, Copy, PartialEq, Eq, Debug)]
 pub struct Heard {
     pub count: usize,
-    pub ending: Ending,
+    pub ending: Result<(), Mismatch>,
 }
 
 /// A round trip: what write-out answered, what was heard of the document if it was written out, and the tables of both ends, for the next one.
+// Stays: what was written and what was heard are two fields, here and in `Compared`, since the clauses of callers name each.
 #[derive(Drop)]
 pub struct Trip {
     pub written: Result<usize, Refusal>,
     pub heard: Option<Heard>,
     pub writer: WriterParts,
     pub reader: ReaderParts,
+}
+
+/// Asks a reader a call's question, and compares the answer with the call.
+fn ask<C: Column>(reader: &mut Reader<'_, C>, step: &Step<'_>, input: &[u8]) -> Result<(), Mismatch>
+    requires { reader.old.input.now ≡ input.now }
+    ensures kind { reader.new.kind ≡ reader.old.kind }
+    ensures input { reader.new.input ≡ reader.old.input }
+    ensures lengths { KeepsLengths reader.old reader.new }
+    ensures matched { (R : Reading) → StandsFor reader.old R → Matched input.now (said step.now.call) reader.new result (answer (C.meaning reader.old.kind.now) R.store R.places (asked step.now.no_size (said step.now.call))) }
+{
+    let answer = reader.ask(step.call.question(step.no_size))?;
+    if says(answer, step.call, input) {
+        Ok(())
+    } else {
+        Err(Mismatch::Other)
+    }
 }
 
 /// Asks a reader each accepted call's question in turn, and then finishes.
@@ -52,30 +77,18 @@ fn listen<C: Column>(reader: &mut Reader<'_, C>, steps: &[Step<'_>], input: &[u8
 {
     let mut count = 0;
     for step in steps {
+        // Stays: a test and a count within the loop; `filter` was tried, and the kit made no proof of the loop, whose reader is borrowed in a generic function.
         if step.accepted {
-            match reader.ask(step.call.question(step.no_size)) {
-                Ok(answer) => {
-                    if !says(answer, step.call, input) {
-                        return Heard {
-                            count,
-                            ending: Ending::Other,
-                        };
-                    }
-                    count += 1;
-                }
-                Err(refusal) => {
-                    return Heard {
-                        count,
-                        ending: Ending::Refused(refusal),
-                    };
-                }
+            if let Err(mismatch) = ask(reader, step, input) {
+                return Heard {
+                    count,
+                    ending: Err(mismatch),
+                };
             }
+            count += 1;
         }
     }
-    let ending = match reader.finish() {
-        Ok(()) => Ending::Same,
-        Err(refusal) => Ending::Refused(refusal),
-    };
+    let ending = reader.finish().map_err(Mismatch::from);
     Heard { count, ending }
 }
 
@@ -92,8 +105,8 @@ pub fn round_trip<C: Column>(
     scratch: &mut [u64],
     output: &mut [u8],
 ) -> Trip
-    ensures steps { steps.new ≡ marked (sizes_for writer) [] steps.old }
-    ensures written { WrittenOut (C.meaning kind.now) (kept (sizes_for writer) [] (calls_of steps.old)) scratch.old scratch.new output.old output.new result.written }
+    ensures steps { steps.new ≡ marked_for writer steps.old }
+    ensures written { WrittenOut (C.meaning kind.now) (accepted_calls writer steps.old) scratch.old scratch.new output.old output.new result.written }
     ensures heard { ReadBack (C.meaning kind.now) output.new (vec_len reader.nodes) (vec_len reader.slots) (askings steps.new) result.written result.heard }
     ensures comes_back { ComesBack (sizes_for writer) (vec_len reader.nodes) (vec_len reader.slots) (askings steps.new) result.written result.heard }
     ensures writer { sizes_for result.writer ≡ sizes_for writer }

@@ -4,7 +4,7 @@ ghost use Rattle.std.specs.Prelude.{◌≡◌, List, [], length, vec_len};
 ghost use Rattle.document.specs.Calls.{Call as Said};
 ghost use Rattle.document.specs.Verdict.{Accepted};
 ghost use Rattle.ser.specs.Standing.{Stands, WrittenOut};
-ghost use Rattle.replay.specs.Given.{calls_of, kept, marked, desk_of, sizes_at, sizes_for};
+ghost use Rattle.replay.specs.Given.{calls_of, kept, accepted_calls, marked, marked_for, desk_of, sizes_at, sizes_for};
 
 use crate::steps::Step;
 use column::interface::Column;
@@ -31,6 +31,7 @@ fn give(writer: &mut Writer, steps: &mut [Step<'_>])
 }
 
 /// Gives each call to one new writer over these tables, marks those that it accepts, closes it and writes it out.
+// Stays: kind, scratch and output are the arguments of write-out, in its order, here and in `round_trip` and `same_bytes`; a struct of two borrowed buffers would be made anew for each call.
 pub fn write_steps<C: Column>(
     kind: &C,
     steps: &mut [Step<'_>],
@@ -38,9 +39,9 @@ pub fn write_steps<C: Column>(
     scratch: &mut [u64],
     output: &mut [u8],
 ) -> Written
-    ensures steps { steps.new ≡ marked (sizes_for tables) [] steps.old }
-    ensures accepted { Accepted (sizes_for tables) (kept (sizes_for tables) [] (calls_of steps.old)) }
-    ensures written { WrittenOut (C.meaning kind.now) (kept (sizes_for tables) [] (calls_of steps.old)) scratch.old scratch.new output.old output.new result.answer }
+    ensures steps { steps.new ≡ marked_for tables steps.old }
+    ensures accepted { Accepted (sizes_for tables) (accepted_calls tables steps.old) }
+    ensures written { WrittenOut (C.meaning kind.now) (accepted_calls tables steps.old) scratch.old scratch.new output.old output.new result.answer }
     ensures tables { sizes_for result.tables ≡ sizes_for tables }
 {
     let Parts { nodes, cells, text } = tables;

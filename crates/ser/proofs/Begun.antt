@@ -1,5 +1,5 @@
 -- A new writer stands for no call.
-use Rattle.std.proofs.Common.{◌≡◌, ℕ, cond, ltb, List, [], ◌∷◌, length, get_or, set, sym, refl, ap, ◌∙◌, subst, inl, ⊎_elim, arith, get_or-set_same}
+use Rattle.std.proofs.Common.{◌≡◌, ℕ, ltb, List, [], ◌∷◌, length, get_or, set, sym, refl, ap, ◌∙◌, subst, inl, ⊎_elim, arith, get_or-set_same}
 use Rattle.std.proofs.lemmas.List.{get_or_past}
 use Rattle.std.proofs.lemmas.Bool.{cases_lt, cond-true, cond-false, lt-ltb, le-ltb}
 use Rattle.document.specs.Nodes.{Path, root}
@@ -8,6 +8,7 @@ use Rattle.nodes.specs.declared.places.State.TheVariants as states
 use Rattle.nodes.specs.Stack.{stack}
 use Rattle.nodes.specs.Placed.{Open}
 use Rattle.nodes.specs.Homes.{Home, ordinal}
+use Rattle.nodes.specs.Children.{rooted}
 use Rattle.ser.specs.declared.records.Node.{Node}
 use Rattle.ser.specs.declared.desk.Desk.{Desk}
 use Rattle.ser.specs.Moves.{blank_node, sheets, node}
@@ -29,7 +30,7 @@ begun d used taken filled marked blank depth long first =
                   marked = marked;
                   marks = λ r p h. ap (λ (n : Node). n.mark) (is r p h);
                   sums = λ r p h. ap (λ (n : Node). n.sum) (is r p h);
-                  indices = λ r p h. ap (λ (n : Node). n.index) (is r p h) ∙ ap ordinal (rooted r p h);
+                  indices = λ r p h. ap (λ (n : Node). n.index) (is r p h) ∙ ap ordinal (root_here r p h);
                   children = λ r p h. (ap (λ (n : Node). n.children.first) (is r p h), sym (ap (λ (n : Node). n.children.last) (is r p h)));
                   cells = λ r p h. (ap (λ (n : Node). n.cells.first) (is r p h), sym (ap (λ (n : Node). n.cells.last) (is r p h)));
                   values = λ k l. absurd (omega arith);
@@ -47,12 +48,12 @@ begun d used taken filled marked blank depth long first =
     is : (r : ℕ) (p : Path) → Home (root ∷ []) r p → node (sheets d.tables) r ≡ blank_node
     is r p h = rw (one r p h) blank
 
-    rooted : (r : ℕ) (p : Path) → Home (root ∷ []) r p → root ≡ p
-    rooted r p h = rw (one r p h) at h.2
+    root_here : (r : ℕ) (p : Path) → Home (root ∷ []) r p → root ≡ p
+    root_here r p h = rw (one r p h) at h.2
 
 -- the record of a new root is blank, where the table has one
-pub root-blank : (ns : List Node) (n : ℕ) → n ≡ length ns → get_or (cond (ltb 1 n) (set ns 1 blank_node) ns) 1 blank_node ≡ blank_node
-root-blank ns n e = ⊎_elim
-    (λ l. ap (λ xs. get_or xs 1 blank_node) (cond-true (ltb 1 n) (set ns 1 blank_node) ns (lt-ltb 1 n l)) ∙ get_or-set_same ns 1 blank_node blank_node (omega arith))
-    (λ l. ap (λ xs. get_or xs 1 blank_node) (cond-false (ltb 1 n) (set ns 1 blank_node) ns (le-ltb 1 n l)) ∙ get_or_past ns 1 blank_node (omega arith))
-    (cases_lt 1 n)
+pub root-blank : (ns : List Node) → get_or (rooted ns blank_node) 1 blank_node ≡ blank_node
+root-blank ns = ⊎_elim
+    (λ l. ap (λ xs. get_or xs 1 blank_node) (cond-true (ltb 1 (length ns)) (set ns 1 blank_node) ns (lt-ltb 1 (length ns) l)) ∙ get_or-set_same ns 1 blank_node blank_node (omega arith))
+    (λ l. ap (λ xs. get_or xs 1 blank_node) (cond-false (ltb 1 (length ns)) (set ns 1 blank_node) ns (le-ltb 1 (length ns) l)) ∙ get_or_past ns 1 blank_node (omega arith))
+    (cases_lt 1 (length ns))

@@ -1,5 +1,5 @@
 -- What an accepted list of calls leaves is sound, and within the tables.
-use Rattle.std.proofs.Common.{◌≡◌, ℕ, ◌+◌, ◌≤◌, ltb, ◌≢◌, List, [], ◌∷◌, ◌++◌, Ok, refl, subst, inl, inr, arith}
+use Rattle.std.proofs.Common.{◌≡◌, ◌+◌, ◌≤◌, ltb, ◌≢◌, List, [], ◌∷◌, ◌++◌, Ok, refl, subst, inl, inr, arith}
 use Rattle.std.proofs.lemmas.List.{append-nil, append_assoc}
 use Rattle.std.proofs.lemmas.Bool.{ltb-false}
 use Rattle.document.specs.declared.refusals.Refusal.TheVariants as refusals
@@ -70,4 +70,4 @@ unseen sizes ts b q z = go (at q ts) (b.seen q)
   where
     go : (vs : List Value) → (vs ≢ [] → times q (nodes_of ts) ≡ 1) → vs ≡ []
     go [] k = refl
-    go (v ∷ vs) k = absurd (omega (arith, k (λ e. let o : ◌≡◌ {A = ℕ} 0 1 = cc in omega arith)))
+    go (v ∷ vs) k = absurd (omega (arith, k (λ e. cc)))

@@ -1,5 +1,6 @@
 -- A call: the step, the place that it opens, and the places settled.
-use Rattle.std.proofs.Common.{◌≡◌, ℕ, ◌+◌, ◌-◌, ◌<◌, ◌≤◌, Bool, true, false, cond, ◌&&◌, eqb, [], ◌∷◌, length, Ok, Err, Option, Result, suc, sym, refl, ap, ◌∙◌, arith, length-set}
+use Rattle.std.proofs.Common.{◌≡◌, ℕ, ◌+◌, ◌-◌, ◌<◌, ◌≤◌, Bool, true, false, cond, ◌&&◌, eqb, [], ◌∷◌, length, Ok, Err, Option, Result, refl, ap, ◌∙◌, arith, length-set}
+use Rattle.std.proofs.lemmas.Bool.{cond-true}
 use Rattle.std.proofs.lemmas.Bool.Decides.{nat_tests}
 use Rattle.std.specs.declared.option.Option.TheVariants as options
 use Rattle.document.specs.declared.refusals.Refusal.{Refusal}
@@ -9,9 +10,8 @@ use Rattle.nodes.specs.declared.places.State.{State}
 use Rattle.nodes.specs.declared.places.State.TheVariants.{Root, Items, Keys, Vals, Fields, Lone, One, Closing}
 use Rattle.nodes.specs.declared.places.Places.{Places}
 use Rattle.nodes.specs.Ahead.{Ahead, nowhere, there, ahead, is_full}
-use Rattle.nodes.specs.Stack.{waiting, stack, top, settled, opening, rest}
-use Rattle.nodes.proofs.Stacked.{stack-turned, turned-same}
-use Rattle.nodes.proofs.Placing.{length-levels}
+use Rattle.nodes.specs.Stack.{waiting, stack, top, settled, opening, has_room, rest}
+use Rattle.nodes.proofs.Stacked.{stack-turned, turned-same, room-to-open}
 use Rattle.ser.specs.declared.desk.Desk.{Desk}
 use Rattle.ser.specs.Brings.{branching, is_opening}
 use Rattle.ser.specs.Moves.{Sheets, sheets, branch_in, entered, entered_child}
@@ -80,11 +80,6 @@ pub outcome-roomy : (d : ℕ) (deep : Bool) (T : Sheets) (s : State) (c : Call) 
 outcome-roomy d deep T s (val v) h e = on_value-roomy d deep T s (val v) h e
 outcome-roomy d deep T s end h e = end-roomy d (is_full s) T h
 
--- a place that is opened is one more
-pub opened-depth : (o : Option State) (more taken : Places) → stack more ≡ opening o (stack taken) → more.depth ≡ length (opening o []) + taken.depth
-opened-depth options.None more taken e = omega (arith, sym (length-levels more.table more.depth) ∙ ap length e ∙ length-levels taken.table taken.depth)
-opened-depth (options.Some s) more taken e = omega (arith, sym (length-levels more.table more.depth) ∙ ap length e ∙ ap suc (length-levels taken.table taken.depth))
-
 -- a step that was refused left the desk as it was
 unmoved : (d : Desk) → as_lent d ≡ d
 unmoved d = ap (λ (q : Places). record { tables = d.tables; places = q }) (turned-same d.places)
@@ -92,11 +87,11 @@ unmoved d = ap (λ (q : Places). record { tables = d.tables; places = q }) (turn
 -- a refused step is a refused call
 pub did-refused : (old new : Desk) (e : Refusal) (o : Outcome) → Took old new (Err e) o → Did old new (Err e) o
 did-refused old new e (declined f) t = (cc t.0, t.1 ∙ unmoved old)
-did-refused old new e (moved s T x) t = let z : ◌≡◌ {A = ℕ} 0 1 = cc t.0 in absurd (omega arith)
+did-refused old new e (moved s T x) t = cc t.0
 
 -- what an accepted step leaves to open: there is room for it
 pub took-room : (old new : Desk) (opened : Option State) (o : Outcome) → Roomy old.places.depth o → Took old new (Ok opened) o → length (opening opened []) + new.places.depth ≤ 32
-took-room old new opened (declined e) h t = let z : ◌≡◌ {A = ℕ} 0 1 = cc t.0 in absurd (omega arith)
+took-room old new opened (declined e) h t = cc t.0
 took-room old new opened (moved s T x) h t =
     let e : opened ≡ x = cc t.0 in
     let n = ap (λ o. length (opening o [])) e in
@@ -106,31 +101,32 @@ took-room old new opened (moved s T x) h t =
 pub called : (d : Desk) (deep : Bool) (c : Call) → 0 < d.places.depth → deep ≡ is_deep d c → outcome deep (sheets d.tables) (top d.places) c ≡ calling d c
 called d deep c h e = ap (λ b. outcome b (sheets d.tables) (top d.places) c) e ∙ grind (arith, nat_tests)
 
--- the step, the place opened and the places settled: what the call did
+-- there is room for the place that an accepted step leaves to open
+pub took-opens : (old new : Desk) (opened : Option State) (o : Outcome) → Roomy old.places.depth o → Took old new (Ok opened) o → has_room opened new.places.depth ≡ true
+took-opens old new opened o h t = room-to-open opened new.places.depth (took-room old new opened o h t)
+
+-- the step, and the place opened and the places settled: what the call did
 pub did-call :
-    (old taken more new : Desk) (opened : Option State) (o : Outcome)
+    (old taken new : Desk) (opened : Option State) (o : Outcome)
     → 0 < old.places.depth
     → old.places.depth ≤ 32
     → old.places.depth ≤ length old.places.table
     → Roomy old.places.depth o
     → Took old taken (Ok opened) o
-    → stack more.places ≡ opening opened (stack taken.places)
-    → length more.places.table ≡ length taken.places.table
-    → more.tables ≡ taken.tables
-    → stack new.places ≡ settled (stack more.places)
-    → new.places.depth ≤ more.places.depth
-    → new.places.table ≡ more.places.table
-    → new.tables ≡ more.tables
+    → stack new.places ≡ cond (has_room opened taken.places.depth) (settled (opening opened (stack taken.places))) (stack taken.places)
+    → (taken.places.depth ≤ 32 → new.places.depth ≤ 32)
+    → length new.places.table ≡ length taken.places.table
+    → new.tables ≡ taken.tables
     → Did old new (Ok tt) o
-did-call old taken more new opened (declined e) p h l room t ms ml mt ns nd np nt = let z : ◌≡◌ {A = ℕ} 0 1 = cc t.0 in absurd (omega arith)
-did-call old taken more new opened (moved s T x) p h l room t ms ml mt ns nd np nt =
+did-call old taken new opened (declined e) p h l room t ns nd nl nt = cc t.0
+did-call old taken new opened (moved s T x) p h l room t ns nd nl nt =
     let e : opened ≡ x = cc t.0 in
     let turns : stack taken.places ≡ s ∷ rest (stack old.places) = ap stack t.2 ∙ stack-turned old.places s p l in
     let same = ap (λ (q : Places). length q.table) t.2 ∙ length-set old.places.table (old.places.depth - 1) (waiting s) in
-    let depths = opened-depth opened more.places taken.places ms in (
+    let deep = ap (λ (q : Places). q.depth) t.2 in (
       refl,
-      ap sheets (nt ∙ mt) ∙ t.1,
-      ns ∙ ap settled (ms ∙ ap (opening opened) turns ∙ ap (λ y. opening y (s ∷ rest (stack old.places))) e),
-      omega (arith, depths, took-room old taken opened (moved s T x) room t),
-      ap length np ∙ ml ∙ same,
+      ap sheets nt ∙ t.1,
+      ns ∙ cond-true _ _ _ (took-opens old taken opened (moved s T x) room t) ∙ ap settled (ap (opening opened) turns ∙ ap (λ y. opening y (s ∷ rest (stack old.places))) e),
+      nd (omega arith),
+      nl ∙ same,
     )

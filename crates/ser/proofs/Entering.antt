@@ -70,7 +70,7 @@ module _ (T : Sheets) (ts : List Entry) (H : Holds T ts) (r : ℕ) (p : Path) (h
     where
       go : (vs : List Value) → at q ts ≡ vs → at q ts ≡ []
       go [] e = e
-      go (u ∷ us) e = absurd (omega (arith, z, seen q (λ n. let w : ◌≡◌ {A = ℕ} 0 1 = cc in omega arith)))
+      go (u ∷ us) e = absurd (omega (arith, z, seen q (λ n. cc)))
 
   -- another node's values stay
   others : (q : Path) → (p ≡ q → ⊥) → at q (ts ++ entry p v ∷ []) ≡ at q ts
@@ -82,7 +82,7 @@ module _ (T : Sheets) (ts : List Entry) (H : Holds T ts) (r : ℕ) (p : Path) (h
 
   -- p is no child of its own
   not_own : (s : Step) → p ≡ p ▹ s → ⊥
-  not_own s e = let n = not-child p s in let k = ap (same p) (sym e) ∙ same_self p in let w : ◌≡◌ {A = ℕ} 0 1 = cc in omega arith
+  not_own s e = let n = not-child p s in let k = ap (same p) (sym e) ∙ same_self p in cc
 
   once-here : times p (nodes_of ts) ≡ 1
   once-here = omega (arith, once p ts, home-times (nodes_of ts) r p home)
@@ -195,7 +195,7 @@ module _ (T : Sheets) (ts : List Entry) (H : Holds T ts) (r : ℕ) (p : Path) (h
       plain : (branch_of v ≡ unbranched) × (index_of v ≡ options.None) → Branched (branched r k (index_of v) U) × ((i : ℕ) → index_of v ≡ options.Some i → Home (nodes_of (ts ++ entry p v ∷ [])) (branch_then k (index_of v) U) (p ▹ alt i))
       plain (b, o) = (
         subst (λ x. Branched (branched r k x U)) (sym o) (recast _ _ _ _ _ _ _ _ _ _ _ _ _ (nodes-old (ap (new_child (had (λ i. false) (at p ts)) p) b)) (λ q. refl) (λ q. refl) refl refl refl G),
-        λ i e. absurd (let w : ◌≡◌ {A = ℕ} 0 1 = cc in omega arith),
+        λ i e. cc,
       )
 
       with-index : (i : ℕ) × (branch_of v ≡ branch i) × (index_of v ≡ options.Some i) → Branched (branched r k (index_of v) U) × ((i : ℕ) → index_of v ≡ options.Some i → Home (nodes_of (ts ++ entry p v ∷ [])) (branch_then k (index_of v) U) (p ▹ alt i))
@@ -221,7 +221,7 @@ module _ (T : Sheets) (ts : List Entry) (H : Holds T ts) (r : ℕ) (p : Path) (h
               let nil = unseen q z in
               let had-not : had (λ j. false) (at p ts) i ≡ false = ⊎_elim (λ t. absurd (omega (arith, z, branch-there ts p i, ap (λ x. cond {A = ℕ} x 1 0) t))) (λ f. f) (cases_Bool (had (λ j. false) (at p ts) i)) in
               let one : new_child (had (λ i. false) (at p ts)) p (branch_of v) ≡ q ∷ [] = ap (new_child (had (λ i. false) (at p ts)) p) b ∙ ap (λ x. cond x [] ((p ▹ alt i) ∷ [])) had-not in
-              let there-is : new_child (had (λ i. false) (at p ts)) p (branch_of v) ≢ [] = λ n. let w : ◌≡◌ {A = ℕ} 0 1 = cc in omega arith in
+              let there-is : new_child (had (λ i. false) (at p ts)) p (branch_of v) ≢ [] = λ n. cc in
               let front : Alone (nodes_of ts ++ marked (at p ts) p (kind v)) = alone-front (nodes_of ts ++ marked (at p ts) p (kind v)) (q ∷ []) (subst Alone (sym (nodes-new q one)) (alone_of (ts ++ entry p v ∷ []))) in
               let none : places (is_child q) 1 ((nodes_of ts ++ marked (at p ts) p (kind v)) ++ q ∷ []) ≡ [] = places-none (is_child q) 1 ((nodes_of ts ++ marked (at p ts) p (kind v)) ++ q ∷ [])
               (All-append (λ x. is_child q x ≡ false) (nodes_of ts ++ marked (at p ts) p (kind v)) (q ∷ []) (All-append (λ x. is_child q x ≡ false) (nodes_of ts) (marked (at p ts) p (kind v)) (childless ts q nil) (off (marked (at p ts) p (kind v)) family-kin)) (brothers p q q (same_self p) (same_self p), tt)) in

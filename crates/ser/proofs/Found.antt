@@ -1,8 +1,9 @@
 -- What the tables hold, as it is found there: a node's mark, its children and how many cells are taken.
-use Rattle.std.proofs.Common.{◌≡◌, ℕ, zero, suc, ◌≤◌, Bool, true, false, cond, ltb, ◌⊎◌, List, [], ◌∷◌, ◌++◌, map, length, refl, ap, ◌∙◌, arith, length-append}
+use Rattle.std.proofs.Common.{◌≡◌, ℕ, zero, suc, ◌<◌, ◌≤◌, Bool, true, false, cond, ◌⊎◌, List, [], ◌∷◌, ◌++◌, map, length, refl, ap, ◌∙◌, arith, length-append}
 use Rattle.std.specs.List.{AllByRecursion}
 use Rattle.std.proofs.Math.ListN.{get_or-map}
 use Rattle.std.proofs.lemmas.Bool.{ne_eqb}
+use Rattle.std.proofs.lemmas.Bool.Decides.{nat_tests}
 use Rattle.chain.proofs.Courses.{runs-course}
 use Rattle.document.specs.Calls.{Value, scalar, text, unit, none, some, variant, seq, map as mapping, tuple, Kind, ENUM, kind}
 use Rattle.document.specs.Nodes.{Path, ◌▹◌, Step, elem, key, value, field, alt, alike}
@@ -73,13 +74,12 @@ child-found T ts h r p home k i = rw (children-course T ts h r p home i) (seek-c
 
 -- ---- the cells
 
--- A length takes two cells at most.
+-- A length takes a cell, and two at most.
+pub some-cells : (n : ℕ) → 0 < length_cells n
+some-cells n = grind (arith, nat_tests)
+
 length_two : (n : ℕ) → length_cells n ≤ 2
-length_two n = go (ltb n 255)
-  where
-    go : (b : Bool) → cond b 1 2 ≤ 2
-    go true = omega arith
-    go false = omega arith
+length_two n = grind (arith, nat_tests)
 
 -- A value takes two cells at most.
 cells-two : (v : Value) → cells v ≤ 2

@@ -67,7 +67,7 @@ cellless (d ∷ ts) q e = go (same d.node q) refl (cellless ts q) e
     go true k ih h = absurd (nothing h)
       where
         nothing : d.said ∷ at q ts ≡ [] → ⊥
-        nothing z = let w : ◌≡◌ {A = ℕ} 0 1 = cc in omega arith
+        nothing z = cc
     go false k ih h = All-append (λ z. is_held q z ≡ false) (slotted d (cells d.said)) (slots_of ts) (each-slot (cells d.said) k) (ih h)
 
 -- the cells of one entry more
@@ -109,8 +109,8 @@ pub brothers : (p q x : Path) → is_child p q ≡ true → is_child p x ≡ tru
 brothers p q x a b = go (is_child q x) refl
   where
     own : (y : Path) → is_child y y ≡ true → ⊥
-    own root e = let w : ◌≡◌ {A = ℕ} 0 1 = cc in omega arith
-    own (y ▹ s) e = let z : y ≡ y ▹ s = same_true y (y ▹ s) e in let n = not-child y s in let w : ◌≡◌ {A = ℕ} 0 1 = cc in omega arith
+    own root e = cc
+    own (y ▹ s) e = let z : y ≡ y ▹ s = same_true y (y ▹ s) e in let n = not-child y s in cc
 
     go : (b : Bool) → is_child q x ≡ b → b ≡ false
     go true e = absurd (own p (ap (is_child p) (child-one p q x b e) ∙ a))

@@ -123,10 +123,6 @@ Celled ENUM = Unit {0}
 Celled UNIT = ⊥
 Celled (TUPLE n) = ⊥
 
--- anything, from two constructors that `cc` finds equal
-never : {X : Type 0} → ◌≡◌ {A = ℕ} 0 1 → X
-never e = absurd (omega arith)
-
 -- a length takes a cell or two
 length-cells : (n : ℕ) → 0 < cond (ltb n 255) 1 2
 length-cells n = cond_both (ltb n 255) 1 2 (λ k. 0 < k) (λ _. omega arith) (λ _. omega arith)
@@ -145,15 +141,15 @@ celling (tuple n) h = absurd h
 
 -- the number of a text is its length
 text-kind : (v : Value) → kind v ≡ TEXT → IsText v
-text-kind (scalar k b) e = never (cc)
+text-kind (scalar k b) e = cc
 text-kind (text bs) e = refl
-text-kind unit e = never (cc)
-text-kind none e = never (cc)
-text-kind some e = never (cc)
-text-kind (variant i) e = never (cc)
-text-kind (seq n) e = never (cc)
-text-kind (map n) e = never (cc)
-text-kind (tuple n) e = never (cc)
+text-kind unit e = cc
+text-kind none e = cc
+text-kind some e = cc
+text-kind (variant i) e = cc
+text-kind (seq n) e = cc
+text-kind (map n) e = cc
+text-kind (tuple n) e = cc
 
 -- values of one kind, with a fact of the kind
 all_of_kind : (P : Value → Type 0) (Q : Kind → Type 0) → ((v : Value) → Q (kind v) → P v) → (K : Kind) → Q K → (vs : List Value) → AllByRecursion (λ v. kind v ≡ K) vs → AllByRecursion P vs

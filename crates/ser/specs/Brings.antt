@@ -7,7 +7,6 @@ use Rattle.nodes.specs.declared.marks.Mark.{Mark}
 use Rattle.nodes.specs.declared.marks.Mark.TheVariants.{Unmarked}
 use Rattle.nodes.specs.Marks.{mark_of}
 use Rattle.ser.specs.declared.loads.Load.{Load}
-use Rattle.ser.specs.declared.loads.Load.TheVariants.{Nothing, Number, Length}
 
 -- the value that a call says; `end` says none, and takes what a unit takes: nothing
 abbrev pub value_in : Call → Value
@@ -19,34 +18,40 @@ abbrev pub marking : Call → Mark
 marking (val v) = mark_of (kind v)
 marking end = Unmarked
 
+-- a number or an index adds nothing to the node's sum of lengths
+abbrev pub number_load : ℕ → Load
+number_load b = record { value = b; extent = 0 }
+
+-- a length adds itself
+abbrev pub length_load : ℕ → Load
+length_load n = record { value = n; extent = n }
+
 -- what the node keeps of a value
-abbrev pub load_of : Value → Load
-load_of (scalar k b) = Number b
-load_of (text bs) = Length (length bs)
-load_of unit = Nothing
-load_of none = Number 0
-load_of some = Number 1
-load_of (variant i) = Number i
-load_of (seq n) = Length n
-load_of (map n) = Length n
-load_of (tuple n) = Nothing
+abbrev pub load_of : Value → Option Load
+load_of (scalar k b) = options.Some (number_load b)
+load_of (text bs) = options.Some (length_load (length bs))
+load_of unit = options.None
+load_of none = options.Some (number_load 0)
+load_of some = options.Some (number_load 1)
+load_of (variant i) = options.Some (number_load i)
+load_of (seq n) = options.Some (length_load n)
+load_of (map n) = options.Some (length_load n)
+load_of (tuple n) = options.None
 
 -- what it keeps of a call
-abbrev pub loading : Call → Load
+abbrev pub loading : Call → Option Load
 loading (val v) = load_of v
-loading end = Nothing
+loading end = options.None
 
--- the cells that a load takes
-abbrev pub load_cells : Load → ℕ
-load_cells Nothing = 0
-load_cells (Number n) = 1
-load_cells (Length n) = length_cells n
+-- the cells that a load takes: one, and a second one for a long length
+abbrev pub load_cells : Option Load → ℕ
+load_cells options.None = 0
+load_cells (options.Some x) = length_cells x.extent
 
 -- what it adds to the node's sum of lengths
-abbrev pub load_extent : Load → ℕ
-load_extent Nothing = 0
-load_extent (Number n) = 0
-load_extent (Length n) = n
+abbrev pub load_extent : Option Load → ℕ
+load_extent options.None = 0
+load_extent (options.Some x) = x.extent
 
 -- the index whose child the value that follows stands at
 abbrev pub index_of : Value → Option ℕ

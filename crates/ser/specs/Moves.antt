@@ -1,10 +1,11 @@
 -- What the writer does to its tables, one move at a time. These mirror the code; what they come to is said in Holds.
-use Rattle.std.specs.Prelude.{ℕ, zero, suc, ◌+◌, Bool, cond, List, map as each, length, vec_items, Option, ◌==◌, nat_lt, slice_index_or}
+use Rattle.std.specs.Prelude.{ℕ, zero, suc, ◌+◌, Bool, cond, List, map as each, length, vec_items, Option, ◌==◌, slice_index_or}
 use Rattle.std.specs.declared.option.Option.TheVariants as options
 use Rattle.column.specs.Interface.{overlaid}
 use Rattle.chain.specs.declared.Chain.{Chain}
 use Rattle.chain.specs.Chains.{adjust, appended, longer, course}
 use Rattle.document.specs.Calls.{scalar, text, unit, none, some, variant, seq, map, tuple, Call, val, end}
+use Rattle.document.specs.Tables.{length_cells}
 use Rattle.nodes.specs.declared.marks.Mark.{Mark}
 use Rattle.nodes.specs.declared.marks.Mark.TheVariants as marks
 use Rattle.nodes.specs.Marks.{mark_number, family_of}
@@ -12,7 +13,6 @@ use Rattle.nodes.specs.Children.{seek}
 use Rattle.ser.specs.declared.records.Node.{Node}
 use Rattle.ser.specs.declared.records.Cell.{Cell}
 use Rattle.ser.specs.declared.loads.Load.{Load}
-use Rattle.ser.specs.declared.loads.Load.TheVariants.{Nothing, Number, Length}
 use Rattle.ser.specs.declared.store.Tables.{Tables}
 use Rattle.ser.specs.Brings.{marking, loading, branching, is_lone}
 
@@ -34,25 +34,25 @@ blank_cell = record { value = 0; start = 0; next = 0 }
 
 -- a record with another field
 abbrev pub with_next : Node → ℕ → Node
-with_next n k = record { mark = n.mark; sum = n.sum; index = n.index; next = k; children = n.children; cells = n.cells; order = n.order }
+with_next n k = record n { next = k }
 
 abbrev pub with_mark : Mark → Node → Node
-with_mark m n = record { mark = m; sum = n.sum; index = n.index; next = n.next; children = n.children; cells = n.cells; order = n.order }
+with_mark m n = record n { mark = m }
 
 abbrev pub with_sum : ℕ → Node → Node
-with_sum x n = record { mark = n.mark; sum = n.sum + x; index = n.index; next = n.next; children = n.children; cells = n.cells; order = n.order }
+with_sum x n = record n { sum = n.sum + x }
 
 abbrev pub with_children : Chain → Node → Node
-with_children c n = record { mark = n.mark; sum = n.sum; index = n.index; next = n.next; children = c; cells = n.cells; order = n.order }
+with_children c n = record n { children = c }
 
 abbrev pub with_cells : Chain → Node → Node
-with_cells c n = record { mark = n.mark; sum = n.sum; index = n.index; next = n.next; children = n.children; cells = c; order = n.order }
+with_cells c n = record n { cells = c }
 
 abbrev pub with_order : ℕ → Node → Node
-with_order r n = record { mark = n.mark; sum = n.sum; index = n.index; next = n.next; children = n.children; cells = n.cells; order = r }
+with_order r n = record n { order = r }
 
 abbrev pub cell_with_next : Cell → ℕ → Cell
-cell_with_next c k = record { value = c.value; start = c.start; next = k }
+cell_with_next c k = record c { next = k }
 
 -- ---- tables
 
@@ -83,14 +83,9 @@ is_fresh T r = mark_number (node T r).mark == 0
 -- a new record, as the last child of r
 abbrev pub spawned : ℕ → ℕ → Sheets → Sheets
 spawned r i T =
-    record {
+    record T {
       nodes = adjust (with_children (longer (node T r).children T.used)) r (appended with_next T.nodes (node T r).children.last T.used (child i));
-      cells = T.cells;
-      text = T.text;
       used = T.used + 1;
-      taken = T.taken;
-      filled = T.filled;
-      marked = T.marked;
     }
 
 -- .. and so many
@@ -101,42 +96,29 @@ grown r (suc n) T = spawned r n (grown r n T)
 -- r is marked, and is next in the order of marking
 abbrev pub named : ℕ → Mark → Sheets → Sheets
 named r m T =
-    record {
-      nodes = adjust (with_order r) (T.marked + 1) (adjust (with_mark m) r T.nodes);
-      cells = T.cells;
-      text = T.text;
-      used = T.used;
-      taken = T.taken;
-      filled = T.filled;
-      marked = T.marked + 1;
-    }
+    record T { nodes = adjust (with_order r) (T.marked + 1) (adjust (with_mark m) r T.nodes); marked = T.marked + 1 }
 
 -- a first value marks its node, whose children come with it
 abbrev pub touched : ℕ → Mark → Sheets → Sheets
 touched r m T = cond (is_fresh T r) (grown r (family_of m) (named r m T)) T
 
--- a value goes to a cell, as the last of r's; the tables are charged so many cells
-abbrev pub celled : ℕ → ℕ → ℕ → ℕ → Sheets → Sheets
-celled r v more x T =
-    record {
-      nodes = adjust (with_cells (longer (node T r).cells T.taken)) r (adjust (with_sum x) r T.nodes);
-      cells = appended cell_with_next T.cells (node T r).cells.last T.taken (record { value = v; start = T.filled; next = 0 });
-      text = T.text;
-      used = T.used;
-      taken = T.taken + more;
-      filled = T.filled;
-      marked = T.marked;
+-- a value goes to a cell, as the last of r's; the tables are charged the cells that it takes
+abbrev pub celled : ℕ → Load → Sheets → Sheets
+celled r x T =
+    record T {
+      nodes = adjust (with_cells (longer (node T r).cells T.taken)) r (adjust (with_sum x.extent) r T.nodes);
+      cells = appended cell_with_next T.cells (node T r).cells.last T.taken (record { value = x.value; start = T.filled; next = 0 });
+      taken = T.taken + length_cells x.extent;
     }
 
 -- what a node keeps of a call
-abbrev pub kept : ℕ → Load → Sheets → Sheets
-kept r Nothing T = T
-kept r (Number v) T = celled r v 1 0 T
-kept r (Length n) T = celled r n (cond (nat_lt n 255) 1 2) n T
+abbrev pub kept : ℕ → Option Load → Sheets → Sheets
+kept r options.None T = T
+kept r (options.Some x) T = celled r x T
 
 -- text bytes go to the text table
 abbrev pub written : List ℕ → Sheets → Sheets
-written bs T = record { nodes = T.nodes; cells = T.cells; text = overlaid T.filled bs T.text; used = T.used; taken = T.taken; filled = T.filled + length bs; marked = T.marked }
+written bs T = record T { text = overlaid T.filled bs T.text; filled = T.filled + length bs }
 
 -- the letters of a call
 abbrev pub lettered : Call → Sheets → Sheets

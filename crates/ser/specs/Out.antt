@@ -1,5 +1,5 @@
 -- Write-out: the bytes of the marked nodes, as the tables hold them, and what keeps the code within its buffers.
-use Rattle.std.specs.Prelude.{◌≡◌, ℕ, zero, suc, ◌+◌, ◌<◌, ◌≤◌, Bool, cond, ◌&&◌, List, [], ◌++◌, map as each, length, take, drop, replicate, Ok, Err, Result, nat_le, slice_index_or}
+use Rattle.std.specs.Prelude.{◌≡◌, ℕ, zero, suc, ◌+◌, ◌^◌, ◌<◌, ◌≤◌, Bool, cond, ◌&&◌, List, [], ◌++◌, map as each, length, take, drop, replicate, Option, Some, Ok, Err, Result, nat_le, slice_index_or}
 use Rattle.std.specs.List.{AllByRecursion}
 use Rattle.column.specs.Widths.{Below}
 use Rattle.column.specs.Meaning.{Meaning}
@@ -84,6 +84,14 @@ FitsMark marks.Map vs = Below 64 vs
 FitsMark marks.Enum vs = Below 8 vs
 FitsMark marks.Unit vs = Unit {0}
 FitsMark (marks.Tuple n) vs = Unit {0}
+
+-- what a call of an entry gives at a value is the column's number for it, if there is one
+abbrev pub Computes : (ℕ → Option ℕ → Type 0) → (ℕ → Option ℕ) → Type 0
+Computes post column = (value : ℕ) (number : Option ℕ) → value < 2 ^ 64 → post value number → number ≡ column value
+
+-- each number that a call at one of these values may give fits the width
+abbrev pub EntriesFit : (ℕ → Option ℕ → Type 0) → ℕ → List ℕ → Type 0
+EntriesFit post w vs = AllByRecursion (λ v. (n : ℕ) → post v (Some n) → n < 2 ^ w) vs
 
 -- the pieces of cells lie within the text
 abbrev pub Pieces : List Cell → List ℕ → List ℕ → Type 0

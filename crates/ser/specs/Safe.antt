@@ -18,11 +18,8 @@ pub record RowSafe (T : Sheets) (r : ℕ) : Type 0 where
 -- of the tables
 pub record RowsSafe (T : Sheets) : Type 0 where
   pub some-nodes : 1 < T.used
-  pub few-nodes : T.used ≤ 65536
   pub some-cells : 0 < T.taken
-  pub few-cells : T.taken ≤ 1048576
   pub filled : T.filled ≤ length T.text
-  pub few-letters : T.filled ≤ 16777216
   pub few-marked : T.marked < T.used
   pub rows : (r : ℕ) → 0 < r → r < T.used → RowSafe T r
 

@@ -26,6 +26,10 @@ pub record Stands (d : Desk) (cs : List Call) : Type 0 where
   pub depth : d.places.depth ≤ 32
   pub places : length d.places.table ≡ 32
 
+-- It stands for some calls.
+abbrev pub StandsForSome : Desk → Type 0
+StandsForSome d = ∥ ((cs : List Call) × Stands d cs) ∥₁
+
 -- What a call told: the verdict of the definitions; refused, the writer is as it was; accepted, it stands for the list with this call added. The tables keep their lengths.
 pub record Told (old new : Desk) (cs : List Call) (c : Call) (r : Result (Unit {0}) Refusal) : Type 0 where
   pub told : r ≡ verdict (sizes_of (sheets old.tables)) cs c

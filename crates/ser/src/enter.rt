@@ -1,9 +1,8 @@
 //! A value goes into the tables.
 
-ghost use Rattle.std.specs.Prelude.{◌≡◌, ◌+◌, ◌^◌, ◌<◌, ◌≤◌, true, false, length, is_ok, vec_len, slice_index_or};
-ghost use Rattle.column.specs.Interface.{overlaid};
-ghost use Rattle.chain.specs.Chains.{adjust, appended, longer};
+ghost use Rattle.std.specs.Prelude.{◌≡◌, ◌+◌, ◌^◌, ◌<◌, ◌≤◌, min, true, false, length, is_ok, vec_len};
 ghost use Rattle.document.specs.Columns.{limit};
+ghost use Rattle.document.specs.Tables.{length_cells};
 ghost use Rattle.document.specs.Verdict.{high_index, ill_formed};
 ghost use Rattle.document.specs.Calls.{val, none};
 ghost use Rattle.document.specs.Said.{said};
@@ -11,117 +10,62 @@ ghost use Rattle.nodes.specs.declared.marks.Mark.TheVariants.{Unit as unit_mark}
 ghost use Rattle.ser.specs.Steps.{opened_at, entering, entered_at};
 ghost use Rattle.ser.specs.Safe.{RowsSafe};
 ghost use Rattle.ser.specs.Brings.{value_in, load_cells, load_extent, loading, letters_in, is_lone};
-ghost use Rattle.ser.specs.Moves.{sheets, node, is_fresh, child_of, branch_in, child as child_record, blank_node, with_mark, with_order, with_children, with_cells, with_sum, spawned, named, grown, touched, celled, kept, written, lettered, branched, branch_then, put, put_child, unit_after, entered, entered_child};
+ghost use Rattle.ser.specs.Moves.{sheets, node, is_fresh, child_of, branch_in, child as child_record, spawned, named, grown, touched, celled, kept, written, branched, branch_then, put, put_child, unit_after, entered, entered_child};
 ghost use Rattle.ser.specs.Bounds.{GrowSafe, TouchSafe, BranchSafe, KeepSafe, PutSafe};
 ghost use Rattle.ser.specs.Tables.{is_other, no_unit, strange_at, nodes_for, lacks_nodes, lacks_cells, lacks_text, is_too_long, weighed_at};
 
-use crate::loads::{Load, index_of, is_lone, load_of, mark_of};
+use crate::loads::{Load, index_of, is_lone, letters_of, load_of, mark_of};
 use crate::records::{Cell, Node};
 use crate::store::Tables;
-use chain::{Chain, Linked, append};
+use chain::append;
 use document::calls::Call;
+use document::limits::{LAST_INDEX, LIMIT, MOST_CELLS, MOST_NODES, MOST_TEXT};
 use document::refusals::Refusal;
-use nodes::children::find;
+use nodes::children::{add_child, find};
 use nodes::marks::Mark;
 use nodes::places::State;
 use utf8::well_formed;
-
-/// No more of the tables is used than this.
-const MOST_NODES: usize = 65_536;
-
-const MOST_CELLS: usize = 1_048_576;
-
-const MOST_TEXT: usize = 16_777_216;
-
-/// The sum of a node's lengths stays below this.
-const LIMIT: u64 = 2_251_799_813_685_247;
-
-/// A length from here on takes a second cell.
-const LONG: u64 = 255;
-
-/// The highest index of a variant.
-const LAST_INDEX: u32 = 255;
-
-impl Load {
-    /// How many cells it takes.
-    fn cells(self) -> usize
-        ensures { result ≡ load_cells self }
-    {
-        match self {
-            Load::Nothing => 0,
-            Load::Number(_) => 1,
-            Load::Length(n) => if n < LONG { 1 } else { 2 },
-        }
-    }
-
-    /// What it adds to the sum of lengths.
-    fn extent(self) -> u64
-        ensures { result ≡ load_extent self }
-    {
-        match self {
-            Load::Nothing | Load::Number(_) => 0,
-            Load::Length(n) => n,
-        }
-    }
-}
 
 /// Whether the call has an index above the highest.
 fn is_high(call: Call) -> bool
     ensures { result ≡ high_index (value_in (said call.entry)) }
 {
-    match call {
-        Call::Variant(i) => i > LAST_INDEX,
-        _ => false,
-    }
+    matches!(call, Call::Variant(i) if i > LAST_INDEX)
 }
 
 /// Whether the call is a text that is not well-formed.
 fn is_ill_formed(call: Call) -> bool
     ensures { result ≡ ill_formed (value_in (said call.entry)) }
 {
-    match call {
-        Call::Text(letters) => well_formed(letters).is_err(),
-        _ => false,
-    }
-}
-
-/// The number of text bytes that the call brings.
-fn letters(call: Call) -> usize
-    ensures { result ≡ length (letters_in (said call.entry)) }
-{
-    match call {
-        Call::Text(letters) => letters.len(),
-        _ => 0,
-    }
+    matches!(call, Call::Text(letters) if well_formed(letters).is_err())
 }
 
 /// The record of a new child.
 fn new_child(index: u32) -> Node
     ensures { result ≡ child_record index }
 {
-    let mut record = Node::blank();
-    record.index = index;
-    record
+    Node {
+        index,
+        ..Node::blank()
+    }
 }
 
 // ---- the verdict
 
+// Stays: the record, the child's record and the call are three parameters, here and below; a struct of them would be taken apart again at each definition that they are handed to.
 impl Tables {
     /// The record r, or a blank one past the table's end.
     fn look(&self, r: usize) -> Node
         ensures { result ≡ node (sheets self.now) r }
     {
-        if r < self.nodes.len() {
-            return self.nodes[r];
-        }
-        Node::blank()
+        self.nodes.get(r).copied().unwrap_or_else(Node::blank)
     }
 
     /// Whether no value stands at the record r.
     fn is_fresh(&self, r: usize) -> bool
         ensures { result ≡ is_fresh (sheets self.now) r }
     {
-        self.look(r).mark.is(Mark::Unmarked)
+        self.look(r).mark == Mark::Unmarked
     }
 
     /// The record of the child with this index, 0 where there is none.
@@ -135,10 +79,7 @@ impl Tables {
     fn branch(&self, r: usize, index: Option<u32>) -> usize
         ensures { result ≡ branch_in (sheets self.now) r index }
     {
-        match index {
-            Some(i) => self.child(r, i),
-            None => 0,
-        }
+        index.map_or(0, |i| self.child(r, i))
     }
 
     /// Whether the record is marked otherwise.
@@ -146,17 +87,14 @@ impl Tables {
         ensures { result ≡ is_other (sheets self.now) r mark }
     {
         let old = self.look(r).mark;
-        !old.is(Mark::Unmarked) && !old.is(mark)
+        old != Mark::Unmarked && old != mark
     }
 
     /// Whether the call is a `none` and its child no unit.
     fn is_no_unit(&self, child: usize, call: Call) -> bool
         ensures { result ≡ no_unit (sheets self.now) child (said call.entry) }
     {
-        match call {
-            Call::None => child != 0 && self.is_other(child, Mark::Unit),
-            _ => false,
-        }
+        matches!(call, Call::None) && child != 0 && self.is_other(child, Mark::Unit)
     }
 
     /// Whether the call is of another kind than its node, or its unit than the child.
@@ -176,15 +114,11 @@ impl Tables {
         } else {
             u64::from(mark_of(call).family())
         };
-        match index_of(call) {
-            Some(_) if child == 0 => family + 1,
-            _ => family,
-        }
+        family + u64::from(child == 0 && index_of(call).is_some())
     }
 
     /// Whether there is no room for the node records that the call takes.
     fn lacks_nodes(&self, r: usize, child: usize, call: Call) -> bool
-        requires { self.now.used ≤ 65536 }
         ensures { result ≡ lacks_nodes (sheets self.now) (nodes_for (sheets self.now) r child (said call.entry)) }
     {
         self.used as u64 + self.nodes_for(r, child, call) > self.nodes.len().min(MOST_NODES) as u64
@@ -192,10 +126,9 @@ impl Tables {
 
     /// Whether there is no room for the cells that the call takes.
     fn lacks_cells(&self, call: Call) -> bool
-        requires { self.now.taken ≤ 1048576 }
         ensures { result ≡ lacks_cells (sheets self.now) (load_cells (loading (said call.entry))) }
     {
-        let more = load_of(call).cells();
+        let more = load_of(call).map_or(0, Load::cells);
         more != 0 && self.taken + more > self.cells.len().min(MOST_CELLS)
     }
 
@@ -204,23 +137,20 @@ impl Tables {
         requires { (node (sheets self.now) r).sum < limit }
         ensures { result ≡ is_too_long (sheets self.now) r (load_extent (loading (said call.entry))) }
     {
-        load_of(call).extent() >= LIMIT - self.look(r).sum
+        load_of(call).map_or(0, |load| load.extent) >= LIMIT - self.look(r).sum
     }
 
     /// Whether there is no room for the text that the call brings.
     fn lacks_text(&self, call: Call) -> bool
-        requires { (self.now.filled ≤ vec_len self.now.text) × (self.now.filled ≤ 16777216) }
         ensures { result ≡ lacks_text (sheets self.now) (length (letters_in (said call.entry))) }
     {
-        letters(call) > self.text.len().min(MOST_TEXT) - self.filled
+        self.filled + letters_of(call).len() > self.text.len().min(MOST_TEXT)
     }
 
     /// The verdict on a value at the record r.
+    #[tactic(auto, unfolding(crate::specs::Tables::weighed_at))]
     fn judge(&self, r: usize, child: usize, call: Call) -> Result<(), Refusal>
-        requires nodes { self.now.used ≤ 65536 }
-        requires cells { self.now.taken ≤ 1048576 }
-        requires text { (self.now.filled ≤ vec_len self.now.text) × (self.now.filled ≤ 16777216) }
-        requires sum { (node (sheets self.now) r).sum < limit }
+        requires { (node (sheets self.now) r).sum < limit }
         ensures { result ≡ weighed_at (sheets self.now) r child (said call.entry) }
     {
         if self.is_strange(r, child, call) {
@@ -250,79 +180,17 @@ impl Tables {
 
 // ---- the moves
 
-/// Puts a record at `place`, as the last of the chain, and answers the longer chain.
-fn attach<R: Linked>(table: &mut [R], chain: Chain, place: usize, record: R) -> Chain
-    requires { (0 < place) × ((place < length table.old) × (chain.last < length table.old)) }
-    ensures answer { result ≡ longer chain place }
-    ensures table { table.new ≡ appended R.Linked.with_next table.old chain.last place «record» }
-{
-    match append(table, chain, place, record) {
-        Ok(longer) => longer,
-        Err(_) => unreachable(),
-    }
-}
-
-/// The record r gets a mark.
-fn set_mark(nodes: &mut [Node], r: usize, mark: Mark)
-    requires { r < length nodes.old }
-    ensures { nodes.new ≡ adjust (with_mark mark) r nodes.old }
-{
-    nodes[r].mark = mark;
-}
-
-/// The record j tells of r in the order of marking.
-fn set_order(nodes: &mut [Node], j: usize, r: usize)
-    requires { j < length nodes.old }
-    ensures { nodes.new ≡ adjust (with_order r) j nodes.old }
-{
-    nodes[j].order = r;
-}
-
-/// The record r gets another chain of children.
-fn set_children(nodes: &mut [Node], r: usize, chain: Chain)
-    requires { r < length nodes.old }
-    ensures { nodes.new ≡ adjust (with_children chain) r nodes.old }
-{
-    nodes[r].children = chain;
-}
-
-/// The record r gets another chain of cells.
-fn set_cells(nodes: &mut [Node], r: usize, chain: Chain)
-    requires { r < length nodes.old }
-    ensures { nodes.new ≡ adjust (with_cells chain) r nodes.old }
-{
-    nodes[r].cells = chain;
-}
-
-/// The sum of the record r grows.
-fn add_sum(nodes: &mut [Node], r: usize, more: u64)
-    requires within { r < length nodes.old }
-    requires room { (slice_index_or nodes.old r blank_node).sum + more < 2 ^ 64 }
-    ensures { nodes.new ≡ adjust (with_sum more) r nodes.old }
-{
-    nodes[r].sum += more;
-}
-
-/// Copies the bytes to the text, from a place on.
-fn lay(text: &mut [u8], from: usize, letters: &[u8])
-    requires { from + length letters.now ≤ length text.old }
-    ensures { text.new ≡ overlaid from letters.now text.old }
-{
-    text[from..from + letters.len()].copy_from_slice(letters);
-}
-
 impl Tables {
     /// A new record, as the last child of r.
+    // Stays: from here to `branch_out`, beside the reader's: what both do to a table is `add_child`, and how far a table is used is a field of each one's own.
     fn spawn(&mut self, r: usize, index: u32) -> usize
-        requires within { (r < vec_len self.old.nodes) × ((0 < self.old.used) × (self.old.used < vec_len self.old.nodes)) }
+        requires within { (r < vec_len self.old.nodes) × (0 < self.old.used) × (self.old.used < min (vec_len self.old.nodes) 65536) }
         requires tail { (node (sheets self.old) r).children.last < vec_len self.old.nodes }
         ensures place { result ≡ self.old.used }
         ensures tables { sheets self.new ≡ spawned r index (sheets self.old) }
     {
         let place = self.used;
-        let children = self.nodes[r].children;
-        let longer = attach(&mut self.nodes, children, place, new_child(index));
-        set_children(&mut self.nodes, r, longer);
+        add_child(&mut self.nodes, r, place, new_child(index)).unwrap();
         self.used += 1;
         place
     }
@@ -332,9 +200,9 @@ impl Tables {
         requires { (r < vec_len self.old.nodes) × (self.old.marked + 1 < vec_len self.old.nodes) }
         ensures { sheets self.new ≡ named r mark (sheets self.old) }
     {
-        set_mark(&mut self.nodes, r, mark);
+        self.nodes[r].mark = mark;
         self.marked += 1;
-        set_order(&mut self.nodes, self.marked, r);
+        self.nodes[self.marked].order = r;
     }
 
     /// So many children of r come into being.
@@ -370,54 +238,43 @@ impl Tables {
         }
     }
 
-    /// A value goes to a cell, as the last of r's; the tables are charged so many cells.
-    fn add_cell(&mut self, r: usize, value: u64, more: usize, extent: u64)
-        requires within { (r < vec_len self.old.nodes) × ((0 < self.old.taken) × ((self.old.taken < vec_len self.old.cells) × (self.old.taken + more < 2 ^ 64))) }
+    /// A value goes to a cell, as the last of r's; the tables are charged the cells that it takes.
+    fn add_cell(&mut self, r: usize, load: Load)
+        requires within { (r < vec_len self.old.nodes) × (0 < self.old.taken) × (self.old.taken + length_cells load.extent ≤ min (vec_len self.old.cells) 1048576) }
         requires last { (node (sheets self.old) r).cells.last < vec_len self.old.cells }
-        requires room { (node (sheets self.old) r).sum + extent < 2 ^ 64 }
-        ensures { sheets self.new ≡ celled r value more extent (sheets self.old) }
+        requires room { (node (sheets self.old) r).sum + load.extent < 2 ^ 64 }
+        ensures { sheets self.new ≡ celled r load (sheets self.old) }
     {
         let cells = self.nodes[r].cells;
         let record = Cell {
-            value,
+            value: load.value,
             start: self.filled,
             next: 0,
         };
-        let longer = attach(&mut self.cells, cells, self.taken, record);
-        add_sum(&mut self.nodes, r, extent);
-        set_cells(&mut self.nodes, r, longer);
-        self.taken += more;
+        let longer = append(&mut self.cells, cells, self.taken, record).unwrap();
+        self.nodes[r].sum += load.extent;
+        self.nodes[r].cells = longer;
+        self.taken += load.cells();
     }
 
     /// What a node keeps of a call.
-    fn keep(&mut self, r: usize, load: Load)
+    fn keep(&mut self, r: usize, load: Option<Load>)
         requires { KeepSafe (sheets self.old) r load }
         ensures { sheets self.new ≡ kept r load (sheets self.old) }
     {
-        match load {
-            Load::Nothing => {}
-            Load::Number(value) => self.add_cell(r, value, 1, 0),
-            Load::Length(n) => self.add_cell(r, n, load.cells(), n),
+        if let Some(load) = load {
+            self.add_cell(r, load);
         }
     }
 
     /// Text bytes go to the text table.
     fn write(&mut self, letters: &[u8])
-        requires { self.old.filled + length letters.now ≤ vec_len self.old.text }
+        requires { self.old.filled + length letters.now ≤ min (vec_len self.old.text) 16777216 }
         ensures { sheets self.new ≡ written letters.now (sheets self.old) }
     {
-        lay(&mut self.text, self.filled, letters);
-        self.filled += letters.len();
-    }
-
-    /// The letters of a call.
-    fn letter(&mut self, call: Call)
-        requires { self.old.filled + length (letters_in (said call)) ≤ length self.old.text.items }
-        ensures { sheets self.new ≡ lettered (said call.entry) (sheets self.old) }
-    {
-        if let Call::Text(letters) = call {
-            self.write(letters);
-        }
+        let end = self.filled + letters.len();
+        self.text[self.filled..end].copy_from_slice(letters);
+        self.filled = end;
     }
 
     /// One value at the record r; answers the record of its index's child.
@@ -429,7 +286,7 @@ impl Tables {
         self.touch(r, mark_of(call));
         let child = self.branch_out(r, child, index_of(call));
         self.keep(r, load_of(call));
-        self.letter(call);
+        self.write(letters_of(call));
         child
     }
 
@@ -438,7 +295,7 @@ impl Tables {
         requires { said call ≡ val none → TouchSafe (sheets self.old) child unit_mark }
         ensures { sheets self.new ≡ unit_after (said call.entry) child (sheets self.old) }
     {
-        if let Call::None = call {
+        if matches!(call, Call::None) {
             self.touch(child, Mark::Unit);
         }
     }
@@ -459,6 +316,7 @@ impl Tables {
     }
 
     /// The place that a value at r opens; `child` is the record of its index's child.
+    // Stays: beside the reader's, since a call says what it opens, and an answer does so by its question; a type between them would add a match to each.
     fn opened(&self, r: usize, child: usize, call: Call) -> Option<State>
         ensures { result ≡ opened_at (sheets self.now) r child (said call.entry) }
     {

@@ -2,21 +2,51 @@
 
 ghost use Rattle.std.specs.Prelude.{◌≡◌};
 ghost use Rattle.document.specs.Said.{said};
+ghost use Rattle.document.specs.Tables.{length_cells};
 ghost use Rattle.document.specs.Verdict.{Real};
-ghost use Rattle.ser.specs.Brings.{marking, loading, branching, is_lone, is_opening};
+ghost use Rattle.ser.specs.Brings.{number_load, length_load, marking, loading, branching, letters_in, is_lone, is_opening};
 
 use document::calls::Call;
+use document::limits::LONG;
 use nodes::marks::Mark;
 
-/// What a node keeps of a call: nothing, a number, or a length.
+/// What a node keeps of a value.
 #[derive(Clone, Copy)]
-pub(crate) enum Load {
-    Nothing,
-    Number(u64),
-    Length(u64),
+pub(crate) struct Load {
+    /// A number, an index or a length.
+    pub(crate) value: u64,
+    /// What it adds to the node's sum of lengths: a length itself, and else nothing.
+    pub(crate) extent: u64,
+}
+
+impl Load {
+    /// A number or an index.
+    fn number(value: u64) -> Load
+        ensures { result ≡ number_load value }
+    {
+        Load { value, extent: 0 }
+    }
+
+    /// A length.
+    fn length(value: u64) -> Load
+        ensures { result ≡ length_load value }
+    {
+        Load {
+            value,
+            extent: value,
+        }
+    }
+
+    /// How many cells it takes: a long length takes a second one.
+    pub(crate) fn cells(self) -> usize
+        ensures { result ≡ length_cells self.extent }
+    {
+        if self.extent < LONG { 1 } else { 2 }
+    }
 }
 
 /// What the call marks its node as; `end` is no value, and marks nothing.
+// Stays: from here on beside the reader's functions of these names, since calls and answers are other types.
 pub(crate) fn mark_of(call: Call) -> Mark
     ensures { result ≡ marking (said call.entry) }
 {
@@ -35,19 +65,29 @@ pub(crate) fn mark_of(call: Call) -> Mark
 }
 
 /// What the node keeps of it.
-pub(crate) fn load_of(call: Call) -> Load
+pub(crate) fn load_of(call: Call) -> Option<Load>
     ensures { result ≡ loading (said call.entry) }
 {
     if let Some(number) = call.number() {
-        return Load::Number(number.bits);
+        return Some(Load::number(number.bits));
     }
     match call {
-        Call::Text(letters) => Load::Length(letters.len() as u64),
-        Call::None => Load::Number(0),
-        Call::Some => Load::Number(1),
-        Call::Variant(i) => Load::Number(u64::from(i)),
-        Call::Seq(n) | Call::Map(n) => Load::Length(n),
-        _ => Load::Nothing,
+        Call::Text(letters) => Some(Load::length(letters.len() as u64)),
+        Call::None => Some(Load::number(0)),
+        Call::Some => Some(Load::number(1)),
+        Call::Variant(i) => Some(Load::number(u64::from(i))),
+        Call::Seq(n) | Call::Map(n) => Some(Load::length(n)),
+        _ => None,
+    }
+}
+
+/// The text bytes that the call brings.
+pub(crate) fn letters_of(call: Call<'_>) -> &[u8]
+    ensures { result.now ≡ letters_in (said call.entry) }
+{
+    match call {
+        Call::Text(letters) => letters,
+        _ => &[],
     }
 }
 
@@ -67,10 +107,7 @@ pub(crate) fn index_of(call: Call) -> Option<u32>
 pub(crate) fn is_lone(call: Call) -> bool
     ensures { result ≡ is_lone (said call.entry) }
 {
-    match call {
-        Call::Tuple(1) => true,
-        _ => false,
-    }
+    matches!(call, Call::Tuple(1))
 }
 
 /// Whether the call opens a place.
@@ -78,8 +115,8 @@ pub(crate) fn is_opening(call: Call) -> bool
     ensures answer { result ≡ is_opening (said call.entry) }
     ensures real { Real (said call.entry) }
 {
-    match call {
-        Call::Some | Call::Variant(_) | Call::Seq(_) | Call::Map(_) | Call::Tuple(_) => true,
-        _ => false,
-    }
+    matches!(
+        call,
+        Call::Some | Call::Variant(_) | Call::Seq(_) | Call::Map(_) | Call::Tuple(_)
+    )
 }

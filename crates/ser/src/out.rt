@@ -1,211 +1,130 @@
 //! Write-out: the columns of the marked nodes, in the order in which they were marked.
 
-ghost use Rattle.std.specs.Prelude.{◌≡◌, suc, ◌+◌, ◌-◌, ◌<◌, ◌≤◌, true, map, length, take, vec_len};
+ghost use Rattle.std.specs.Prelude.{◌≡◌, ℕ, ◌-◌, ◌<◌, ◌≤◌, true, Option, length};
+ghost use Rattle.std.specs.List.{filter_map};
 ghost use Rattle.column.specs.Widths.{listed, Below};
 ghost use Rattle.column.specs.Interface.{Written};
-ghost use Rattle.document.specs.Columns.{short, longs, length_bytes, joined};
-ghost use Rattle.ser.specs.Moves.{sheets, node};
-ghost use Rattle.ser.specs.Out.{in_chain, values_of, pieces_of, node_image, ordered, image_of, Pieces, NodeSafe, OutSafe, ending, Put, Wrote};
+ghost use Rattle.document.specs.Columns.{length_bytes, joined};
+ghost use Rattle.ser.specs.Moves.{sheets};
+ghost use Rattle.ser.specs.Out.{in_chain, values_of, pieces_of, node_image, image_of, Pieces, Computes, EntriesFit, NodeSafe, OutSafe, ending, Put, Wrote};
 
 use crate::records::{Cell, Node};
 use crate::store::Tables;
 use chain::{Chain, walk};
 use column::interface::Column;
+use document::limits::LONG;
 use document::refusals::Refusal;
 use nodes::marks::Mark;
-
-/// A length from here on stands in the second length column.
-const LONG: u64 = 255;
-
-/// Puts 255 for each length from there on.
-fn shorten(lengths: &mut [u64])
-    ensures { lengths.new ≡ map short lengths.old }
-{
-    for length in lengths.iter_mut() {
-        if *length >= LONG {
-            *length = LONG;
-        }
-    }
-}
-
-/// Moves the lengths of 255 or more to the front, and answers how many there are.
-fn sift(lengths: &mut [u64]) -> usize
-    ensures count { result ≡ length (longs lengths.old) }
-    ensures front { take result lengths.new ≡ longs lengths.old }
-{
-    let mut long = 0;
-    for i in 0..lengths.len() {
-        if lengths[i] >= LONG {
-            lengths[long] = lengths[i];
-            long += 1;
-        }
-    }
-    long
-}
-
-/// The values of a chain of cells, from the front of the scratch on; answers how many there are.
-fn gather(cells: &[Cell], chain: Chain, scratch: &mut [u64]) -> usize
-    requires { length (in_chain cells.now chain) ≤ length scratch.old }
-    ensures count { result ≡ length (in_chain cells.now chain) }
-    ensures front { take result scratch.new ≡ values_of cells.now chain }
-{
-    let mut n = 0;
-    for k in walk(cells, chain) {
-        scratch[n] = cells[k].value;
-        n += 1;
-    }
-    n
-}
-
-/// One column; answers the place after it.
-fn put_column<C: Column>(
-    kind: &C,
-    width: u32,
-    values: &mut [u64],
-    output: &mut [u8],
-    place: usize,
-) -> Result<usize, Refusal>
-    requires { (listed width ≡ true) × (Below width values.old) }
-    ensures { Put place ((C.Column.meaning kind.now).image width values.old) output.old output.new result }
-{
-    match kind.write(0, width, values, output, place) {
-        Ok(size) => Ok(place + size),
-        Err(fault) => Err(Refusal::of_fault(fault, 0)),
-    }
-}
 
 /// One text; answers the place after it.
 fn put_text(text: &[u8], output: &mut [u8], place: usize) -> Result<usize, Refusal>
     requires { place ≤ length output.old }
     ensures { Put place text.now output.old output.new result }
 {
-    let size = text.len();
-    if size > output.len() - place {
+    // Stays: that the place is within the output is asked here and of two callers; a name for a bound would say no more.
+    let end = place + text.len();
+    if end > output.len() {
         return Err(Refusal::Room);
     }
-    output[place..place + size].copy_from_slice(text);
-    Ok(place + size)
-}
-
-/// The column of a chain's values; answers the place after it.
-fn write_values<C: Column>(
-    kind: &C,
-    width: u32,
-    cells: &[Cell],
-    chain: Chain,
-    scratch: &mut [u64],
-    output: &mut [u8],
-    place: usize,
-) -> Result<usize, Refusal>
-    requires { (listed width ≡ true) × ((Below width (values_of cells.now chain)) × (length (in_chain cells.now chain) ≤ length scratch.old)) }
-    ensures { Put place ((C.Column.meaning kind.now).image width (values_of cells.now chain)) output.old output.new result }
-{
-    let n = gather(cells, chain, scratch);
-    put_column(kind, width, &mut scratch[0..n], output, place)
-}
-
-/// The first column of a chain's lengths, 255 for each from there on; answers the place after it.
-fn write_short<C: Column>(
-    kind: &C,
-    cells: &[Cell],
-    chain: Chain,
-    scratch: &mut [u64],
-    output: &mut [u8],
-    place: usize,
-) -> Result<usize, Refusal>
-    requires { length (in_chain cells.now chain) ≤ length scratch.old }
-    ensures { Put place ((C.Column.meaning kind.now).image 8 (map short (values_of cells.now chain))) output.old output.new result }
-{
-    let n = gather(cells, chain, scratch);
-    shorten(&mut scratch[0..n]);
-    put_column(kind, 8, &mut scratch[0..n], output, place)
-}
-
-/// The second column of a chain's lengths, those of 255 or more; answers the place after it.
-fn write_long<C: Column>(
-    kind: &C,
-    cells: &[Cell],
-    chain: Chain,
-    scratch: &mut [u64],
-    output: &mut [u8],
-    place: usize,
-) -> Result<usize, Refusal>
-    requires { (Below 64 (values_of cells.now chain)) × (length (in_chain cells.now chain) ≤ length scratch.old) }
-    ensures { Put place ((C.Column.meaning kind.now).image 64 (longs (values_of cells.now chain))) output.old output.new result }
-{
-    let n = gather(cells, chain, scratch);
-    let long = sift(&mut scratch[0..n]);
-    put_column(kind, 64, &mut scratch[0..long], output, place)
-}
-
-/// The two columns of a chain's lengths; answers the place after them.
-fn write_lengths<C: Column>(
-    kind: &C,
-    cells: &[Cell],
-    chain: Chain,
-    scratch: &mut [u64],
-    output: &mut [u8],
-    place: usize,
-) -> Result<usize, Refusal>
-    requires { (Below 64 (values_of cells.now chain)) × (length (in_chain cells.now chain) ≤ length scratch.old) }
-    ensures { Put place (length_bytes (C.Column.meaning kind.now) (values_of cells.now chain)) output.old output.new result }
-{
-    let end = write_short(kind, cells, chain, scratch, output, place)?;
-    write_long(kind, cells, chain, scratch, output, end)
-}
-
-/// All texts of a chain, one after another; answers the place after them.
-fn write_texts(
-    cells: &[Cell],
-    text: &[u8],
-    chain: Chain,
-    output: &mut [u8],
-    place: usize,
-) -> Result<usize, Refusal>
-    requires { (Pieces cells.now text.now (in_chain cells.now chain)) × (place ≤ length output.old) }
-    ensures { Put place (joined (pieces_of cells.now text.now chain)) output.old output.new result }
-{
-    let mut end = place;
-    for k in walk(cells, chain) {
-        let start = cells[k].start;
-        let size = cells[k].value as usize;
-        end = put_text(&text[start..start + size], output, end)?;
-    }
+    output[place..end].copy_from_slice(text);
     Ok(end)
 }
 
-/// The columns of one node; answers the place after them.
-fn write_node<C: Column>(
-    kind: &C,
-    node: Node,
-    cells: &[Cell],
-    text: &[u8],
-    scratch: &mut [u64],
-    output: &mut [u8],
-    place: usize,
-) -> Result<usize, Refusal>
-    requires { (NodeSafe cells.now text.now (length scratch.old) node) × (place ≤ length output.old) }
-    ensures { Put place (node_image (C.Column.meaning kind.now) cells.now text.now node) output.old output.new result }
-{
-    match node.mark {
-        Mark::Scalar(k) => write_values(kind, k.width(), cells, node.cells, scratch, output, place),
-        Mark::Enum => write_values(kind, 8, cells, node.cells, scratch, output, place),
-        Mark::Seq | Mark::Map => write_lengths(kind, cells, node.cells, scratch, output, place),
-        Mark::Text => {
-            let end = write_lengths(kind, cells, node.cells, scratch, output, place)?;
-            write_texts(cells, text, node.cells, output, end)
-        }
-        Mark::Unmarked | Mark::Unit | Mark::Tuple(_) => Ok(place),
-    }
-}
-
+// Stays: the kind, the scratch, the output and the place in it are handed on one by one; with a struct of them each contract would also have to say that its buffers are still the caller's.
 impl Tables {
-    /// The record of the node that was marked as the `j`-th, from 0 on.
-    fn in_order(&self, j: usize) -> Node
-        requires { (j + 1 < vec_len self.now.nodes) × ((node (sheets self.now) (suc j)).order < vec_len self.now.nodes) }
-        ensures { result ≡ ordered (sheets self.now) j }
+    /// A column of a chain's values; answers the place after it.
+    ///
+    /// `entry` says which number stands in the column for a value, if any does.
+    fn write_column<C: Column, F: Fn(u64) -> Option<u64>>(
+        &self,
+        kind: &C,
+        width: u32,
+        chain: Chain,
+        entry: F,
+        scratch: &mut [u64],
+        output: &mut [u8],
+        place: usize,
+    ) -> Result<usize, Refusal>
+        requires callable { F.IsAlwaysCallable entry }
+        requires width { listed width ≡ true }
+        requires fits { EntriesFit (F.post entry) width (values_of self.now.cells.items chain) }
+        requires room { length (in_chain self.now.cells.items chain) ≤ length scratch.old }
+        ensures { (column : ℕ → Option ℕ) → Computes (F.post entry) column → Put place ((C.Column.meaning kind.now).image width (filter_map column (values_of self.now.cells.items chain))) output.old output.new result }
     {
-        self.nodes[self.nodes[j + 1].order]
+        // Stays: the count; through a `zip` with the scratch's `iter_mut` a proof knows nothing of the numbers that are stored.
+        let mut count = 0;
+        for k in walk(&self.cells, chain) {
+            if let Some(number) = entry(self.cells[k].value) {
+                scratch[count] = number;
+                count += 1;
+            }
+        }
+        let size = kind
+            .write(0, width, &mut scratch[..count], output, place)
+            .map_err(|fault| Refusal::of_fault(fault, 0))?;
+        Ok(place + size)
+    }
+
+    /// The two columns of a chain's lengths: all of them, 255 for each from there on, and then those of 255 or more; answers the place after them.
+    fn write_lengths<C: Column>(
+        &self,
+        kind: &C,
+        chain: Chain,
+        scratch: &mut [u64],
+        output: &mut [u8],
+        place: usize,
+    ) -> Result<usize, Refusal>
+        requires fits { Below 64 (values_of self.now.cells.items chain) }
+        requires room { length (in_chain self.now.cells.items chain) ≤ length scratch.old }
+        ensures { Put place (length_bytes (C.Column.meaning kind.now) (values_of self.now.cells.items chain)) output.old output.new result }
+    {
+        let short = |length: u64| Some(length.min(LONG));
+        let long = |length: u64| (length >= LONG).then_some(length);
+        let place = self.write_column(kind, 8, chain, short, scratch, output, place)?;
+        self.write_column(kind, 64, chain, long, scratch, output, place)
+    }
+
+    /// All texts of a chain, one after another; answers the place after them.
+    fn write_texts(&self, chain: Chain, output: &mut [u8], place: usize) -> Result<usize, Refusal>
+        requires within { Pieces self.now.cells.items self.now.text.items (in_chain self.now.cells.items chain) }
+        requires place { place ≤ length output.old }
+        ensures { Put place (joined (pieces_of self.now.cells.items self.now.text.items chain)) output.old output.new result }
+    {
+        let mut end = place;
+        for k in walk(&self.cells, chain) {
+            let Cell { value, start, .. } = self.cells[k];
+            end = put_text(&self.text[start..start + value as usize], output, end)?;
+        }
+        Ok(end)
+    }
+
+    /// The columns of one node; answers the place after them.
+    fn write_node<C: Column>(
+        &self,
+        kind: &C,
+        node: Node,
+        scratch: &mut [u64],
+        output: &mut [u8],
+        place: usize,
+    ) -> Result<usize, Refusal>
+        requires safe { NodeSafe self.now.cells.items self.now.text.items (length scratch.old) node }
+        requires place { place ≤ length output.old }
+        ensures { Put place (node_image (C.Column.meaning kind.now) self.now.cells.items self.now.text.items node) output.old output.new result }
+    {
+        let chain = node.cells;
+        match node.mark {
+            Mark::Scalar(scalar) => {
+                let width = scalar.width();
+                self.write_column(kind, width, chain, Some, scratch, output, place)
+            }
+            Mark::Enum => self.write_column(kind, 8, chain, Some, scratch, output, place),
+            Mark::Seq | Mark::Map => self.write_lengths(kind, chain, scratch, output, place),
+            Mark::Text => {
+                let end = self.write_lengths(kind, chain, scratch, output, place)?;
+                self.write_texts(chain, output, end)
+            }
+            Mark::Unmarked | Mark::Unit | Mark::Tuple(_) => Ok(place),
+        }
     }
 
     /// The columns of all marked nodes; answers their length.
@@ -220,9 +139,10 @@ impl Tables {
         ensures bytes { Written result 0 (image_of (C.Column.meaning kind.now) (sheets self.now)) output.old output.new }
     {
         let mut place = 0;
-        for j in 0..self.marked {
-            let node = self.in_order(j);
-            place = write_node(kind, node, &self.cells, &self.text, scratch, output, place)?;
+        // From record 1 on, each names the node that was marked next.
+        for record in self.nodes.iter().skip(1).take(self.marked) {
+            let node = self.nodes[record.order];
+            place = self.write_node(kind, node, scratch, output, place)?;
         }
         Ok(place)
     }

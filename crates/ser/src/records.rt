@@ -1,11 +1,10 @@
 //! The records of the writer's tables.
 
-ghost use Rattle.std.specs.Prelude.{◌≡◌};
+ghost use Rattle.std.specs.Prelude.{◌≡◌, refl};
 ghost use Rattle.ser.specs.Moves.{blank_node, blank_cell};
-ghost use Rattle.std.proofs.Common.{rules};
 
 use chain::{Chain, Linked};
-use nodes::children::Indexed;
+use nodes::children::{Indexed, Parent};
 use nodes::marks::Mark;
 
 /// A record of the node table. Its contents are the writer's own.
@@ -22,6 +21,7 @@ pub struct Node {
     pub(crate) children: Chain,
     pub(crate) cells: Chain,
     /// Nothing of this node: record k keeps here the k-th node that was marked.
+    // Stays: the order of marking lies in the node table; there are never more marked nodes than records, and a table for it would be one more for callers to bring.
     pub(crate) order: usize,
 }
 
@@ -46,8 +46,8 @@ impl Node {
             sum: 0,
             index: 0,
             next: 0,
-            children: Chain { first: 0, last: 0 },
-            cells: Chain { first: 0, last: 0 },
+            children: Chain::empty(),
+            cells: Chain::empty(),
             order: 0,
         }
     }
@@ -69,9 +69,9 @@ impl Cell {
 impl Linked for Node {
     ghost next_of = { λ n. n.next };
 
-    ghost with_next = { λ n k. record { mark = n.mark; sum = n.sum; index = n.index; next = k; children = n.children; cells = n.cells; order = n.order } };
+    ghost with_next = { λ n k. record n { next = k } };
 
-    ghost linked = { Prim.search rules };
+    ghost linked = { λ _ _. refl };
 
     fn next(&self) -> usize {
         self.next
@@ -90,12 +90,29 @@ impl Indexed for Node {
     }
 }
 
+impl Parent for Node {
+    ghost children_of = { λ n. n.children };
+
+    ghost with_children = { λ n c. record n { children = c } };
+
+    ghost parental = { λ _ _. refl };
+
+    fn children(&self) -> Chain {
+        self.children
+    }
+
+    fn set_children(&mut self, children: Chain) {
+        self.children = children;
+    }
+}
+
+// Stays: written out beside that of `Node`, since an `impl` may not be written by a macro here.
 impl Linked for Cell {
     ghost next_of = { λ c. c.next };
 
-    ghost with_next = { λ c k. record { value = c.value; start = c.start; next = k } };
+    ghost with_next = { λ c k. record c { next = k } };
 
-    ghost linked = { Prim.search rules };
+    ghost linked = { λ _ _. refl };
 
     fn next(&self) -> usize {
         self.next

@@ -1,8 +1,11 @@
 //! The three tables, and how far each is used.
 
+ghost use Rattle.std.specs.Prelude.{◌≤◌};
+
 use crate::records::{Cell, Node};
 
 /// The tables of a writer. Record 0 of `nodes` and of `cells` stays unused.
+// Stays: records are named by their index, and 0 names none, as the project's rule has it: the tables are the caller's, and no heap is used.
 #[derive(Drop)]
 pub(crate) struct Tables {
     pub(crate) nodes: Vec<Node>,
@@ -16,4 +19,7 @@ pub(crate) struct Tables {
     pub(crate) filled: usize,
     /// The number of nodes that are marked.
     pub(crate) marked: usize,
+    ghost few_nodes: { used ≤ 65536 },
+    ghost few_cells: { taken ≤ 1048576 },
+    ghost few_letters: { filled ≤ 16777216 },
 }

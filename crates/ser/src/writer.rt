@@ -1,8 +1,6 @@
 //! The open writer and the closed one.
 
-ghost use Rattle.std.specs.Prelude.{List};
-ghost use Rattle.document.specs.Calls.{Call as Said};
-ghost use Rattle.ser.specs.Standing.{Stands};
+ghost use Rattle.ser.specs.Standing.{StandsForSome};
 
 use crate::desk::Desk;
 
@@ -10,14 +8,15 @@ use crate::desk::Desk;
 #[derive(Drop)]
 pub struct Writer {
     desk: Desk,
-    ghost stands: { ∥ ((cs : List Said) × Stands desk cs) ∥₁ },
+    ghost stands: { StandsForSome desk },
 }
 
 /// Takes no further call, and can be written out.
+// Stays: a type of its own with the content of `Writer`, since the type tells which calls there are.
 #[derive(Drop)]
 pub struct Closed {
     desk: Desk,
-    ghost stands: { ∥ ((cs : List Said) × Stands desk cs) ∥₁ },
+    ghost stands: { StandsForSome desk },
 }
 
 pub mod calls;

@@ -5,7 +5,7 @@ use Rattle.std.proofs.lemmas.Grind.{flat_map-append}
 use Rattle.std.specs.List.{flat_map}
 use Rattle.column.proofs.Choice.{passed_on}
 use Rattle.document.specs.declared.refusals.Refusal.{Refusal}
-use Rattle.document.specs.Calls.{Value, Call, val, end}
+use Rattle.document.specs.Calls.{Call, end}
 use Rattle.document.specs.Verdict.{verdict}
 use Rattle.ser.specs.declared.writer.Writer.{Writer}
 use Rattle.ser.specs.Moves.{sheets}
@@ -80,34 +80,36 @@ ended {a = a} {b = b} {xs = xs} ys e r is-e first = rw (passed_on r e is-e) (res
 pub call-next : {a b : Writer} {xs : List Call} (d : Writer) (c : Call) (r : Result (Unit {0}) Refusal) → Adds a b xs → Answers b d c r → Tells a d (xs ++ c ∷ []) r
 call-next {b = b} d c r before told = more-told d (c ∷ []) r before (call-told b d c r told)
 
-module _ {X : Type 0} (f : X → List Call) (v : Value) (xs : List X) where
+module _ {X : Type 0} (f : X → List Call) (c : Call) (xs : List X) where
   -- the calls of a list's first n elements
   abbrev first : ℕ → List Call
-  first n = val v ∷ flat_map f (take n xs)
+  first n = c ∷ flat_map f (take n xs)
 
   -- .. and those of one element more
   one-more : (i : ℕ) (x : X) → i < length xs → first i ++ f (get_or xs i x) ≡ first (i + 1)
-  one-more i x within = flat_map_more f (val v ∷ []) (take i xs) (get_or xs i x) ∙ ap (λ (ys : List X). val v ∷ flat_map f ys) (sym (take_more xs i x within))
+  one-more i x within = flat_map_more f (c ∷ []) (take i xs) (get_or xs i x) ∙ ap (λ (ys : List X). c ∷ flat_map f ys) (sym (take_more xs i x within))
 
   -- a list's next element is taken
-  pub element-told : {a b : Writer} (d : Writer) (i : ℕ) (x : X) → i < length xs → Adds a b (first i) → Adds b d (f (get_or xs i x)) → Adds a d (first (i + 1))
-  element-told {a = a} d i x within before next = subst (Adds a d) (one-more i x within) (more-told d (f (get_or xs i x)) (Ok tt) before next)
+  pub element-told : {a b : Writer} (d : Writer) (i : ℕ) (x : X) → x ≡ get_or xs i x → i < length xs → Adds a b (first i) → Adds b d (f x) → Adds a d (first (i + 1))
+  element-told {a = a} {b = b} d i x is within before next =
+      subst (Adds a d) (one-more i x within) (more-told d (f (get_or xs i x)) (Ok tt) before (subst (λ (y : X). Adds b d (f y)) is next))
 
   -- a list's next element is refused
-  pub element-ended : {a b : Writer} (d : Writer) (i : ℕ) (x : X) (e : Refusal) (r : Result (Unit {0}) Refusal) → IsErrAnd r (λ y. y ≡ e) → i < length xs → Adds a b (first i) → Stops b d (f (get_or xs i x)) e
-      → Tells a d (val v ∷ flat_map f xs ++ end ∷ []) r
-  element-ended {a = a} d i x e r is-e within before next =
+  pub element-ended : {a b : Writer} (d : Writer) (i : ℕ) (x : X) (e : Refusal) (r : Result (Unit {0}) Refusal) → IsErrAnd r (λ y. y ≡ e) → x ≡ get_or xs i x → i < length xs → Adds a b (first i) → Stops b d (f x) e
+      → Tells a d (c ∷ flat_map f xs ++ end ∷ []) r
+  element-ended {a = a} {b = b} d i x e r is-e is within before next =
       let rest : List Call = flat_map f (drop (i + 1) xs) in
-      let whole : first (i + 1) ++ rest ≡ val v ∷ flat_map f xs =
-      ap (λ (ys : List Call). val v ∷ ys) (sym (flat_map-append f (take (i + 1) xs) (drop (i + 1) xs)) ∙ ap (flat_map f) (take-append-drop (i + 1) xs)) in
-      let parts : (first i ++ f (get_or xs i x)) ++ (rest ++ end ∷ []) ≡ val v ∷ flat_map f xs ++ end ∷ [] =
+      let whole : first (i + 1) ++ rest ≡ c ∷ flat_map f xs =
+      ap (λ (ys : List Call). c ∷ ys) (sym (flat_map-append f (take (i + 1) xs) (drop (i + 1) xs)) ∙ ap (flat_map f) (take-append-drop (i + 1) xs)) in
+      let parts : (first i ++ f (get_or xs i x)) ++ (rest ++ end ∷ []) ≡ c ∷ flat_map f xs ++ end ∷ [] =
       ap (λ (ys : List Call). ys ++ (rest ++ end ∷ [])) (one-more i x within) ∙ sym (append_assoc (first (i + 1)) rest (end ∷ [])) ∙ ap (λ (ys : List Call). ys ++ end ∷ []) whole in
-      subst (λ (ys : List Call). Tells a d ys r) parts (ended (rest ++ end ∷ []) e r is-e (more-told d (f (get_or xs i x)) (Err e) before next))
+      let stopped : Stops b d (f (get_or xs i x)) e = subst (λ (y : X). Stops b d (f y) e) is next in
+      subst (λ (ys : List Call). Tells a d ys r) parts (ended (rest ++ end ∷ []) e r is-e (more-told d (f (get_or xs i x)) (Err e) before stopped))
 
   -- after all of its elements a list's end is told
-  pub list-told : {a b : Writer} (d : Writer) (i : ℕ) (r : Result (Unit {0}) Refusal) → length xs ≤ i → Adds a b (first i) → Answers b d end r → Tells a d (val v ∷ flat_map f xs ++ end ∷ []) r
+  pub list-told : {a b : Writer} (d : Writer) (i : ℕ) (r : Result (Unit {0}) Refusal) → length xs ≤ i → Adds a b (first i) → Answers b d end r → Tells a d (c ∷ flat_map f xs ++ end ∷ []) r
   list-told {a = a} d i r whole before told =
-      subst (λ (ys : List X). Tells a d (val v ∷ flat_map f ys ++ end ∷ []) r) (take_all i xs whole) (call-next d end r before told)
+      subst (λ (ys : List X). Tells a d (c ∷ flat_map f ys ++ end ∷ []) r) (take_all i xs whole) (call-next d end r before told)
 
 -- what was told to a writer that stood for no call
 pub all-told : (a b : Writer) (xs : List Call) (r : Result (Unit {0}) Refusal) → Stands a.desk [] → Tells a b xs r → TellsAll b.desk xs r

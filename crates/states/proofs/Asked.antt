@@ -18,6 +18,9 @@ use Rattle.de.specs.declared.reader.Reader.{Reader}
 use Rattle.de.specs.Answered.{Answers, question_of}
 use Rattle.de.specs.Readers.{StandsFor, Tells}
 use Rattle.de.proofs.Answering.{Worths, worth_is}
+use Rattle.states.specs.declared.asking.Items.{Items}
+use Rattle.states.specs.declared.asking.Items.TheVariants.{Elements, Pairs}
+use Rattle.states.specs.Asking.{asks_length}
 
 -- a call that the question asks for
 abbrev pub AskedFor : Question → Call → Type 0
@@ -150,3 +153,8 @@ number-told a c place (b, e) ans = go a (subst (λ x. Answers a x place) e ans)
 pub option-told : (a : Answer) (c : Call) (place : ℕ) → AskedFor questions.Option c → Answers a c place → (a ≡ answers.None) ⊎ (a ≡ answers.Some)
 option-told a c place (inl e) ans = inl (subst (λ x. Answers a x place) e ans)
 option-told a c place (inr e) ans = inr (subst (λ x. Answers a x place) e ans)
+
+-- .. to the length of a list or a map
+pub length-told : (items : Items) (a : Answer) (c : Call) (place : ℕ) → AskedFor (asks_length items) c → Answers a c place → (n : ℕ) × ((a ≡ answers.Seq n) ⊎ (a ≡ answers.Map n))
+length-told Elements a c place (n, e) ans = (n, inl (subst (λ x. Answers a x place) e ans))
+length-told Pairs a c place (n, e) ans = (n, inr (subst (λ x. Answers a x place) e ans))

@@ -2,3 +2,4 @@ pub mod Documents
 pub mod Adding
 pub mod Sending
 pub mod Returned
+pub mod Asking

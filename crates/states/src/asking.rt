@@ -1,5 +1,8 @@
 //! Questions to a reader, each for one kind of value.
 
+ghost use Rattle.std.specs.Prelude.{◌≡◌};
+ghost use Rattle.states.specs.Asking.{asks_length};
+
 use crate::message::MessageError;
 use column::interface::Column;
 use de::reader::Reader;
@@ -7,6 +10,8 @@ use de::texts::text_at;
 use document::questions::{Answer, Question};
 use document::refusals::Refusal;
 use document::scalars::Scalar;
+
+// Stays: a function for each question, and not one over the question and a closure: it would require of the closure, for each answer that fits, what the arms of these matches show.
 
 /// A number of eight bits.
 pub(crate) fn number<C: Column>(reader: &mut Reader<'_, C>) -> Result<u8, MessageError> {
@@ -25,18 +30,33 @@ pub(crate) fn is_some<C: Column>(reader: &mut Reader<'_, C>) -> Result<bool, Mes
     }
 }
 
-/// The length of a list.
-pub(crate) fn list<C: Column>(reader: &mut Reader<'_, C>) -> Result<u64, MessageError> {
-    match reader.ask(Question::Seq { no_size: false })? {
-        Answer::Seq(length) => Ok(length),
-        _ => unreachable(),
+/// What is counted: the elements of a list, or the pairs of a map.
+// Stays: a name for each of two questions that differ in their case alone; a flag or a closure would say less.
+#[derive(Clone, Copy)]
+pub(crate) enum Items {
+    Elements,
+    Pairs,
+}
+
+impl Items {
+    /// The question for their number.
+    fn question(self) -> Question
+        ensures { result ≡ asks_length self }
+    {
+        match self {
+            Items::Elements => Question::Seq { no_size: false },
+            Items::Pairs => Question::Map { no_size: false },
+        }
     }
 }
 
-/// The number of a map's pairs.
-pub(crate) fn pairs<C: Column>(reader: &mut Reader<'_, C>) -> Result<u64, MessageError> {
-    match reader.ask(Question::Map { no_size: false })? {
-        Answer::Map(length) => Ok(length),
+/// The number of a list's elements, or of a map's pairs.
+pub(crate) fn length<C: Column>(
+    reader: &mut Reader<'_, C>,
+    items: Items,
+) -> Result<u64, MessageError> {
+    match reader.ask(items.question())? {
+        Answer::Seq(length) | Answer::Map(length) => Ok(length),
         _ => unreachable(),
     }
 }
@@ -57,8 +77,7 @@ pub(crate) fn ask_each<C: Column>(
     reader: &mut Reader<'_, C>,
     questions: &[Question],
 ) -> Result<(), Refusal> {
-    for question in questions {
-        reader.ask(*question)?;
-    }
-    Ok(())
+    questions
+        .iter()
+        .try_for_each(|question| reader.ask(*question).map(|_| ()))
 }

@@ -1,11 +1,12 @@
 //! Write-outs that are refused, and one that is repeated.
 
 use crate::examples::{ALONE, ANNA_AFTER};
-use crate::shown::{Hex, Size, Words};
+use crate::shown::Size;
 use crate::tables::begin;
-use crate::telling::told;
+use crate::telling::{Tell, told};
 use column::flat::Flat;
 use document::calls::Call;
+use printing::Hex;
 use ser::writer::Closed;
 use ser::writer::calls::Parts;
 use std::alloc::{AllocError, Global};
@@ -27,15 +28,6 @@ struct Buffers {
     output: Vec<u8>,
 }
 
-/// What became of a buffer, in words.
-fn condition(untouched: bool, zero: bool) -> &'static str {
-    match (untouched, zero) {
-        (true, _) => "untouched",
-        (false, true) => "zero",
-        (false, false) => "written",
-    }
-}
-
 impl Buffers {
     /// Buffers of these lengths, full of marks.
     fn marked(heap: Global, scratch: usize, output: usize) -> Result<Buffers, AllocError> {
@@ -44,15 +36,16 @@ impl Buffers {
             output: vec![in heap; MARK; output]?,
         })
     }
+}
 
-    fn scratch_words(&self) -> &'static str {
-        let untouched = self.scratch.iter().all(|x| *x == u64::from(MARK));
-        condition(untouched, self.scratch.iter().all(|x| *x == 0))
-    }
-
-    fn output_words(&self) -> &'static str {
-        let untouched = self.output.iter().all(|x| *x == MARK);
-        condition(untouched, self.output.iter().all(|x| *x == 0))
+/// What became of a buffer that was full of marks, in words.
+fn condition<T: Copy + PartialEq + From<u8>>(buffer: &[T]) -> &'static str {
+    if buffer.iter().all(|x| *x == T::from(MARK)) {
+        "untouched"
+    } else if buffer.iter().all(|x| *x == T::from(0)) {
+        "zero"
+    } else {
+        "written"
     }
 }
 
@@ -76,13 +69,10 @@ fn show_attempt(
             let bytes = Hex(buffers.output.as_slice());
             println!(rt; "  {title}: {size}; the output is {bytes}")?;
         }
-        Err(refusal) => {
-            let words = Words(refusal);
-            println!(rt; "  {title}: {words}")?;
-        }
+        Err(refusal) => println!(rt; "  {title}: {refusal}")?,
     }
-    let scratch = buffers.scratch_words();
-    let output = buffers.output_words();
+    let scratch = condition(&buffers.scratch);
+    let output = condition(&buffers.output);
     println!(rt; "    scratch {scratch}, output {output}")
 }
 

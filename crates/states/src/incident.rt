@@ -3,9 +3,10 @@
 use crate::examples::{ANNA_AFTER, MENDED};
 use crate::message::{MessageError, message, send};
 use crate::report::show_kind;
-use crate::shown::{Words, show_answer};
-use crate::state::Seat;
+use crate::shown::show_answer;
+use crate::state::{Grant, Seat};
 use crate::tables::begin;
+use crate::telling::{Tell, call_each};
 use column::flat::Flat;
 use document::calls::Call;
 use document::refusals::Refusal;
@@ -13,42 +14,33 @@ use ser::writer::Writer;
 use ser::writer::calls::Parts;
 use std::io;
 
+/// The grants of a seat that pass this test.
+fn tell_grants<F: Fn(&Grant) -> bool>(
+    seat: &Seat,
+    passes: F,
+    writer: &mut Writer,
+) -> Result<(), Refusal>
+    requires { F.IsAlwaysCallable passes }
+{
+    for grant in seat.grants {
+        if passes(grant) {
+            grant.tell(writer)?;
+        }
+    }
+    Ok(())
+}
+
 /// A table of one seat, up to its map: the map announces all grants, and those of discarded cards are then left out.
 fn tell_held(seat: &Seat, writer: &mut Writer) -> Result<(), Refusal> {
     writer.call(Call::Seq(1))?;
     seat.tell_hand(writer)?;
     writer.call(Call::Map(seat.grants.len() as u64))?;
-    for grant in seat.grants {
-        if grant.seat.is_some() {
-            grant.tell(writer)?;
-        }
-    }
-    Ok(())
-}
-
-/// The grants of the discarded cards.
-fn tell_discarded(seat: &Seat, writer: &mut Writer) -> Result<(), Refusal> {
-    for grant in seat.grants {
-        if grant.seat.is_none() {
-            grant.tell(writer)?;
-        }
-    }
-    Ok(())
-}
-
-/// The ends of the map, of the seat and of the table.
-fn end_all(writer: &mut Writer) -> Result<(), Refusal> {
-    writer.call(Call::End)?;
-    writer.call(Call::End)?;
-    writer.call(Call::End)
+    tell_grants(seat, |grant| grant.seat.is_some(), writer)
 }
 
 /// Whether both are the same bytes.
 fn is_same(one: &Result<Vec<u8>, MessageError>, other: &Result<Vec<u8>, MessageError>) -> bool {
-    match (one, other) {
-        (Ok(one), Ok(other)) => one == other,
-        _ => false,
-    }
+    matches!((one, other), (Ok(one), Ok(other)) if one == other)
 }
 
 /// Shows that an early end is refused and changes nothing: the list is completed, and the bytes are those of a writer that refused nothing.
@@ -60,19 +52,19 @@ pub(crate) fn show_incident(rt: &HostRuntime, tables: Parts) -> io::Result<Parts
     show_answer(
         rt,
         "the table up to map 3, and the grants of two cards",
-        tell_held(seat, &mut writer).map_err(Words),
+        tell_held(seat, &mut writer),
     )?;
-    show_answer(rt, "end", writer.call(Call::End).map_err(Words))?;
-    show_answer(rt, "end again", writer.call(Call::End).map_err(Words))?;
+    show_answer(rt, "end", writer.call(Call::End))?;
+    show_answer(rt, "end again", writer.call(Call::End))?;
     show_answer(
         rt,
         "the discarded card, and none",
-        tell_discarded(seat, &mut writer).map_err(Words),
+        tell_grants(seat, |grant| grant.seat.is_none(), &mut writer),
     )?;
     show_answer(
         rt,
         "end of the map, end of the seat, end of the table",
-        end_all(&mut writer).map_err(Words),
+        call_each(&mut writer, &[Call::End; 3]),
     )?;
     let closed = writer.close();
     show_kind(rt, "flat", &closed, &Flat)?;

@@ -11,10 +11,7 @@ impl Grant {
     fn opens(self, seat: usize) -> bool
         ensures { IsTrue result ↔ (self.seat ≡ Some seat) }
     {
-        match self.seat {
-            Some(opened) => usize::from(opened) == seat,
-            None => false,
-        }
+        self.seat.map(usize::from) == Some(seat)
     }
 }
 
@@ -29,17 +26,18 @@ struct Look<'a> {
 impl fmt::Display for Look<'_> {
     fn fmt<W: fmt::Write>(&self, f: &mut fmt::Formatter<W>) -> fmt::Result {
         let Look { from, into, grants } = *self;
-        if !grants.iter().any(|grant| grant.opens(into)) {
+        let mut opening = grants.iter().filter(|grant| grant.opens(into));
+        let Some(first) = opening.next() else {
             return write!(f, "seat {from} may not look into the hand of seat {into}");
-        }
-        write!(f, "seat {from} may look into the hand of seat {into}, by")?;
-        let mut before = "";
-        for grant in grants {
-            if grant.opens(into) {
-                let card = grant.card;
-                write!(f, "{before} card {card}")?;
-                before = " and";
-            }
+        };
+        let card = first.card;
+        write!(
+            f,
+            "seat {from} may look into the hand of seat {into}, by card {card}"
+        )?;
+        for grant in opening {
+            let card = grant.card;
+            write!(f, " and card {card}")?;
         }
         Ok(())
     }
@@ -50,11 +48,9 @@ pub(crate) fn show_looks(rt: &HostRuntime, state: &ReadState<'_>) -> io::Result<
     let count = state.seats.len();
     for (from, seat) in state.seats.iter().enumerate() {
         let grants = seat.grants.as_slice();
-        for into in 0..count {
-            if into != from {
-                let look = Look { from, into, grants };
-                println!(rt; "    {look}")?;
-            }
+        for into in (0..count).filter(|into| *into != from) {
+            let look = Look { from, into, grants };
+            println!(rt; "    {look}")?;
         }
     }
     Ok(())

@@ -9,7 +9,6 @@ ghost use Rattle.states.specs.declared.message.MessageError.TheVariants.{Memory,
 ghost use Rattle.states.specs.Documents.{state_calls};
 ghost use Rattle.states.specs.Sending.{Fails, SendFails};
 
-use crate::shown::Words;
 use crate::state::TableState;
 use crate::tables::CELLS;
 use crate::telling::told;
@@ -30,6 +29,7 @@ pub enum MessageError {
     Refused(Refusal),
 }
 
+// Stays: `from_gives` says which error `?` makes, and clauses rest on it; a derived `From` has none. `Display` stands with them.
 impl From<AllocError> for MessageError {
     ghost from_gives = { λ _ e. e ≡ Memory };
 
@@ -58,10 +58,7 @@ impl fmt::Display for MessageError {
     fn fmt<W: fmt::Write>(&self, f: &mut fmt::Formatter<W>) -> fmt::Result {
         match self {
             MessageError::Memory => write!(f, "no memory"),
-            MessageError::Refused(refusal) => {
-                let words = Words(*refusal);
-                write!(f, "{words}")
-            }
+            MessageError::Refused(refusal) => write!(f, "{refusal}"),
         }
     }
 }

@@ -39,19 +39,20 @@ fn show_return<C: Column>(
 ) -> io::Result<Tables> {
     let Tables { writer, reader } = tables;
     let (message, writer) = send(rt.alloc(), writer, state, kind);
-    match message {
+    let reader = match message {
         Ok(message) => {
             let size = Size(message.len());
             println!(rt; "  {title}, {size}")?;
             let (read, reader) = receive(rt.alloc(), reader, &message, kind);
             show_read(rt, &read, state)?;
-            Ok(Tables { writer, reader })
+            reader
         }
         Err(error) => {
             println!(rt; "  {title}: {error}")?;
-            Ok(Tables { writer, reader })
+            reader
         }
-    }
+    };
+    Ok(Tables { writer, reader })
 }
 
 /// Sends a state under each kind, and reads it back. Each reader goes on with the tables of the one before.

@@ -1,9 +1,10 @@
 //! A state, read back by the questions of its shape. The first refusal ends the reading.
 
 ghost use Rattle.std.specs.Prelude.{◌≡◌, ◌↔◌, IsTrue};
-ghost use Rattle.states.specs.Returned.{SameSeat, SameSeats, SameState};
+ghost use Rattle.std.specs.List.{AllZip};
+ghost use Rattle.states.specs.Returned.{SameSeat, SameState};
 
-use crate::asking::{is_some, list, number, pairs, text};
+use crate::asking::{Items, is_some, length, number, text};
 use crate::message::MessageError;
 use crate::state::{Grant, Seat, TableState};
 use column::interface::Column;
@@ -27,6 +28,7 @@ pub struct ReadState<'a> {
 }
 
 /// Whether these are the same grants.
+// Stays: a function of its own, since the proof of this `==` needs a lemma of its own.
 fn same_grants(one: &[Grant], other: &[Grant]) -> bool
     ensures { IsTrue result ↔ (one.now ≡ other.now) }
 {
@@ -45,8 +47,9 @@ impl ReadSeat<'_> {
 }
 
 /// Whether these are the same seats, one after another.
+// Stays: the recursion goes down both lists as the definition does, and needs no length compared first.
 fn are(reads: &[ReadSeat<'_>], seats: &[Seat<'_>]) -> bool
-    ensures { IsTrue result ↔ SameSeats reads.now seats.now }
+    ensures { IsTrue result ↔ AllZip SameSeat reads.now seats.now }
 {
     match reads {
         [] => seats.is_empty(),
@@ -77,30 +80,21 @@ fn read_grant<C: Column>(reader: &mut Reader<'_, C>) -> Result<Grant, MessageErr
     Ok(Grant { card, seat })
 }
 
-/// The cards of a hand.
-fn read_cards<C: Column>(
+/// A list or a map: its items, each as this reads it, and its end.
+fn read_list<'r, C: Column, T: Drop, F: FnMut(&mut Reader<'r, C>) -> Result<T, MessageError>>(
     heap: Global,
-    reader: &mut Reader<'_, C>,
-) -> Result<Vec<u8>, MessageError> {
-    let mut cards = Vec::new(heap);
-    for _ in 0..list(reader)? {
-        cards.push(number(reader)?)?;
+    reader: &mut Reader<'r, C>,
+    items: Items,
+    mut read: F,
+) -> Result<Vec<T>, MessageError>
+    requires { F.IsAlwaysCallable read }
+{
+    let mut list = Vec::new(heap);
+    for _ in 0..length(reader, items)? {
+        list.push(read(reader)?)?;
     }
     reader.ask(Question::End)?;
-    Ok(cards)
-}
-
-/// What the cards grant.
-fn read_grants<C: Column>(
-    heap: Global,
-    reader: &mut Reader<'_, C>,
-) -> Result<Vec<Grant>, MessageError> {
-    let mut grants = Vec::new(heap);
-    for _ in 0..pairs(reader)? {
-        grants.push(read_grant(reader)?)?;
-    }
-    reader.ask(Question::End)?;
-    Ok(grants)
+    Ok(list)
 }
 
 /// A seat.
@@ -111,8 +105,8 @@ fn read_seat<'a, C: Column>(
 ) -> Result<ReadSeat<'a>, MessageError> {
     reader.ask(Question::Tuple(3))?;
     let name = text(reader, input)?;
-    let cards = read_cards(heap, reader)?;
-    let grants = read_grants(heap, reader)?;
+    let cards = read_list(heap, reader, Items::Elements, |reader| number(reader))?;
+    let grants = read_list(heap, reader, Items::Pairs, |reader| read_grant(reader))?;
     reader.ask(Question::End)?;
     Ok(ReadSeat {
         name,
@@ -127,8 +121,9 @@ fn read_state<'a, C: Column>(
     reader: &mut Reader<'_, C>,
     input: &'a [u8],
 ) -> Result<ReadState<'a>, MessageError> {
+    // Stays: a closure for `read_list` that gives seats, which borrow the input, was tried, and its proof did not close.
     let mut seats = Vec::new(heap);
-    for _ in 0..list(reader)? {
+    for _ in 0..length(reader, Items::Elements)? {
         seats.push(read_seat(heap, reader, input)?)?;
     }
     reader.ask(Question::End)?;

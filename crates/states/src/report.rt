@@ -2,13 +2,14 @@
 
 use crate::examples::{DEALT, EMPTY, PLAYED};
 use crate::message::message;
-use crate::shown::{Hex, Size, Words};
+use crate::shown::Size;
 use crate::state::TableState;
 use crate::telling::told;
 use column::flat::Flat;
 use column::interface::Column;
 use column::short::Short;
 use column::steps::Steps;
+use printing::Hex;
 use ser::writer::Closed;
 use ser::writer::calls::Parts;
 use std::io;
@@ -51,10 +52,7 @@ fn show_state(
     let (closed, answer) = told(tables, state);
     match answer {
         Ok(()) => show_kinds(rt, &closed)?,
-        Err(refusal) => {
-            let words = Words(refusal);
-            println!(rt; "  {words}")?;
-        }
+        Err(refusal) => println!(rt; "  {refusal}")?,
     }
     Ok(closed.into_tables())
 }

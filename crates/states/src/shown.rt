@@ -1,24 +1,12 @@
-//! How bytes, states and refusals are printed.
+//! How states and answers are printed.
 
+use crate::asking::ask_each;
 use crate::state::{Grant, Seat};
-use document::refusals::Refusal;
+use column::interface::Column;
+use de::reader::Reader;
+use de::reader::questions::Parts;
+use document::questions::Question;
 use std::{fmt, io};
-
-/// Bytes, each as two hexadecimal digits.
-#[derive(Clone, Copy)]
-pub struct Hex<'a>(pub &'a [u8]);
-
-impl fmt::Display for Hex<'_> {
-    fn fmt<W: fmt::Write>(&self, f: &mut fmt::Formatter<W>) -> fmt::Result {
-        for (i, byte) in self.0.iter().enumerate() {
-            if i > 0 {
-                f.write_char(' ')?;
-            }
-            write!(f, "{byte:02x}")?;
-        }
-        Ok(())
-    }
-}
 
 /// A number of bytes, in words.
 #[derive(Clone, Copy)]
@@ -58,47 +46,6 @@ impl fmt::Display for Seat<'_> {
     }
 }
 
-/// A refusal in words, with its number, and the column and the layer of a column's fault.
-#[derive(Clone, Copy)]
-pub struct Words(pub Refusal);
-
-impl fmt::Display for Words {
-    fn fmt<W: fmt::Write>(&self, f: &mut fmt::Formatter<W>) -> fmt::Result {
-        let words = match self.0 {
-            Refusal::Complete => "COMPLETE, the document has its value already",
-            Refusal::Count =>
-                "COUNT, an end before the declared number of values, or a value past it",
-            Refusal::Depth => "DEPTH, more than 32 open places",
-            Refusal::Kind => "KIND, the node is of another kind",
-            Refusal::Index => "INDEX, a variant above 255",
-            Refusal::Nodes => "NODES, too few node records",
-            Refusal::Cells => "CELLS, too few cells or slots",
-            Refusal::Short { .. } => "SHORT, the input ends too early",
-            Refusal::Past => "PAST, a text that passes the input",
-            Refusal::Bad { .. } => "BAD, bytes that stand for no value",
-            Refusal::Sum => "SUM, the lengths at a node come to too much",
-            Refusal::Text => "TEXT, bytes that are no text",
-            Refusal::TextTable => "TEXT TABLE, too few bytes for text",
-            Refusal::Option => "OPTION, neither none nor some",
-            Refusal::NoSize => "NO SIZE, too many elements that take no memory",
-            Refusal::Early => "EARLY, the document is not complete",
-            Refusal::Scratch => "SCRATCH, fewer elements than cells taken",
-            Refusal::Room => "ROOM, more bytes than the output has",
-            Refusal::Left => "LEFT, bytes after the document",
-        };
-        let number = self.0.number();
-        match self.0 {
-            Refusal::Short { layer, column } | Refusal::Bad { layer, column } => {
-                write!(
-                    f,
-                    "{words}, in column {column} at layer {layer}; refusal {number}"
-                )
-            }
-            _ => write!(f, "{words}; refusal {number}"),
-        }
-    }
-}
-
 /// Prints what was answered, a refusal or another fault in its words.
 pub(crate) fn show_answer<T: fmt::Display + Drop, E: fmt::Display + Drop>(
     rt: &HostRuntime,
@@ -109,4 +56,19 @@ pub(crate) fn show_answer<T: fmt::Display + Drop, E: fmt::Display + Drop>(
         Ok(()) => println!(rt; "  {title}: accepted"),
         Err(error) => println!(rt; "  {title}: {error}"),
     }
+}
+
+/// Asks a new reader of this input, and prints what was answered.
+pub(crate) fn show_questions<T: fmt::Display + Drop, C: Column>(
+    rt: &HostRuntime,
+    title: T,
+    kind: &C,
+    input: &[u8],
+    questions: &[Question],
+    tables: Parts,
+) -> io::Result<Parts> {
+    let Parts { nodes, slots } = tables;
+    let mut reader = Reader::new(kind, input, nodes, slots);
+    show_answer(rt, title, ask_each(&mut reader, questions))?;
+    Ok(reader.into_tables())
 }

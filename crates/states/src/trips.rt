@@ -1,6 +1,6 @@
 //! Lists of calls that are written and read back in one call, and two that are compared by their bytes.
 
-use crate::shown::{Size, Words};
+use crate::shown::Size;
 use crate::tables::{Tables, reader_tables};
 use column::flat::Flat;
 use column::interface::Column;
@@ -11,7 +11,7 @@ use document::calls::Call;
 use document::refusals::Refusal;
 use replay::compare::{Compared, same_bytes};
 use replay::steps::Step;
-use replay::trip::{Ending, Heard, Trip, round_trip};
+use replay::trip::{Heard, Mismatch, Trip, round_trip};
 use ser::writer::calls::Parts;
 use std::{fmt, io};
 
@@ -50,17 +50,14 @@ const TWO: [Call<'static>; 2] = [Call::Some, Call::U8(2)];
 
 /// How a reading ended, for printing.
 #[derive(Clone, Copy)]
-struct Shown(Ending);
+struct Shown(Result<(), Mismatch>);
 
 impl fmt::Display for Shown {
     fn fmt<W: fmt::Write>(&self, f: &mut fmt::Formatter<W>) -> fmt::Result {
         match self.0 {
-            Ending::Same => write!(f, "finish accepted"),
-            Ending::Other => write!(f, "then another value"),
-            Ending::Refused(refusal) => {
-                let words = Words(refusal);
-                write!(f, "then {words}")
-            }
+            Ok(()) => write!(f, "finish accepted"),
+            Err(Mismatch::Other) => write!(f, "then another value"),
+            Err(Mismatch::Refused(refusal)) => write!(f, "then {refusal}"),
         }
     }
 }
@@ -72,10 +69,7 @@ fn show_written(rt: &HostRuntime, title: &str, written: Result<usize, Refusal>) 
             let size = Size(size);
             println!(rt; "  {title}: {size}")
         }
-        Err(refusal) => {
-            let words = Words(refusal);
-            println!(rt; "  {title}: {words}")
-        }
+        Err(refusal) => println!(rt; "  {title}: {refusal}"),
     }
 }
 

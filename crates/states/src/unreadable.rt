@@ -2,7 +2,7 @@
 
 use crate::asking::{ask_each, text};
 use crate::reading::receive;
-use crate::shown::{Hex, Words, show_answer};
+use crate::shown::{show_answer, show_questions};
 use crate::tables::reader_tables;
 use column::flat::Flat;
 use column::interface::Column;
@@ -12,6 +12,7 @@ use de::reader::Reader;
 use de::reader::questions::Parts;
 use document::questions::Question;
 use document::scalars::Scalar;
+use printing::Hex;
 use std::{fmt, io};
 
 /// Anna alone, after she discarded a card, under flat columns.
@@ -101,16 +102,19 @@ const STEPS_STATES: [Damage; 2] = [
     },
 ];
 
+/// The length of a list, and its first bit.
+const BIT_QUESTIONS: [Question; 2] = [
+    Question::Seq { no_size: false },
+    Question::Scalar(Scalar::Bool),
+];
+
 /// A list of two bits, of which the second is 2.
 const BITS: Talk = Talk {
     damage: Damage {
         title: "a bit of 2",
         bytes: &[2, 1, 2],
     },
-    questions: &[
-        Question::Seq { no_size: false },
-        Question::Scalar(Scalar::Bool),
-    ],
+    questions: &BIT_QUESTIONS,
 };
 
 /// The same under steps over flat: the differences are 1 and 2.
@@ -119,10 +123,7 @@ const BIT_STEPS: Talk = Talk {
         title: "under steps over flat, a bit of 2",
         bytes: &[2, 1, 2],
     },
-    questions: &[
-        Question::Seq { no_size: false },
-        Question::Scalar(Scalar::Bool),
-    ],
+    questions: &BIT_QUESTIONS,
 };
 
 /// Other documents under flat columns.
@@ -157,15 +158,16 @@ const TALKS: [Talk; 3] = [
     },
 ];
 
-/// Reads a damaged state.
-fn show_state<C: Column>(
+/// Reads bytes as a state, and prints what was answered.
+fn show_state<T: fmt::Display + Drop, C: Column>(
     rt: &HostRuntime,
-    damage: Damage,
+    title: T,
+    bytes: &[u8],
     kind: &C,
     tables: Parts,
 ) -> io::Result<Parts> {
-    let (state, tables) = receive(rt.alloc(), tables, damage.bytes, kind);
-    show_answer(rt, damage, state.map(|_| ()))?;
+    let (state, tables) = receive(rt.alloc(), tables, bytes, kind);
+    show_answer(rt, title, state.map(|_| ()))?;
     Ok(tables)
 }
 
@@ -176,22 +178,18 @@ fn show_talk<C: Column>(
     kind: &C,
     tables: Parts,
 ) -> io::Result<Parts> {
-    let Parts { nodes, slots } = tables;
-    let mut reader = Reader::new(kind, talk.damage.bytes, nodes, slots);
-    let answer = ask_each(&mut reader, talk.questions);
-    show_answer(rt, talk.damage, answer.map_err(Words))?;
-    Ok(reader.into_tables())
+    let Talk { damage, questions } = talk;
+    show_questions(rt, damage, kind, damage.bytes, questions, tables)
 }
 
 /// Shows what is refused of damaged bytes.
-fn show_damages(rt: &HostRuntime, tables: Parts) -> io::Result<Parts> {
-    let mut tables = tables;
+fn show_damages(rt: &HostRuntime, mut tables: Parts) -> io::Result<Parts> {
     for damage in FLAT_STATES {
-        tables = show_state(rt, damage, &Flat, tables)?;
+        tables = show_state(rt, damage, damage.bytes, &Flat, tables)?;
     }
-    tables = show_state(rt, SHORT_STATE, &Short, tables)?;
+    tables = show_state(rt, SHORT_STATE, SHORT_STATE.bytes, &Short, tables)?;
     for damage in STEPS_STATES {
-        tables = show_state(rt, damage, &Steps { lower: Flat }, tables)?;
+        tables = show_state(rt, damage, damage.bytes, &Steps { lower: Flat }, tables)?;
     }
     tables = show_talk(rt, BITS, &Flat, tables)?;
     tables = show_talk(rt, BIT_STEPS, &Steps { lower: Flat }, tables)?;
@@ -204,8 +202,8 @@ fn show_damages(rt: &HostRuntime, tables: Parts) -> io::Result<Parts> {
 /// Reads the state with tables of these lengths.
 fn show_budget(rt: &HostRuntime, title: &str, nodes: usize, slots: usize) -> io::Result<()> {
     let tables = reader_tables(rt.alloc(), nodes, slots)?;
-    let (state, _) = receive(rt.alloc(), tables, &ANNA, &Flat);
-    show_answer(rt, title, state.map(|_| ()))
+    show_state(rt, title, &ANNA, &Flat, tables)?;
+    Ok(())
 }
 
 /// Shows which tables are too small.
@@ -224,8 +222,8 @@ fn show_early(rt: &HostRuntime, tables: Parts) -> io::Result<Parts> {
         Question::Scalar(Scalar::U8),
     ];
     let answer = ask_each(&mut reader, &questions);
-    show_answer(rt, "one of two numbers", answer.map_err(Words))?;
-    show_answer(rt, "finish after it", reader.finish().map_err(Words))?;
+    show_answer(rt, "one of two numbers", answer)?;
+    show_answer(rt, "finish after it", reader.finish())?;
     Ok(reader.into_tables())
 }
 

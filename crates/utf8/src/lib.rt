@@ -1,11 +1,14 @@
 //! The test whether bytes are well-formed UTF-8.
 #![tactic(auto)]
 
-ghost use Rattle.std.specs.Prelude.{◌≡◌, true, ◌&&◌, is_ok, if◌then◌else◌, Ok, Err, Decides, nat_le};
+ghost use Rattle.std.specs.Prelude.{◌≡◌, true, ◌&&◌, is_ok, if◌then◌else◌, Ok, Err, Some, codes, Decides, nat_le};
 ghost use Rattle.utf8.specs.Table.{WellFormed};
 ghost use Rattle.utf8.specs.Scalars.{Encodes};
 ghost use Rattle.utf8.specs.Passes.{passes};
 ghost use Rattle.utf8.specs.Examples.{examples};
+
+use std::error::Error;
+use std::fmt;
 
 /// Why bytes are refused.
 #[derive(Clone, Copy, PartialEq, Eq, Debug)]
@@ -13,6 +16,18 @@ pub enum Fault {
     /// They are not well-formed UTF-8.
     IllFormed,
 }
+
+impl fmt::Display for Fault {
+    ghost output = { λ _. Some (codes "ILL-FORMED, it is not well-formed UTF-8") };
+
+    fn fmt<W: fmt::Write>(&self, f: &mut fmt::Formatter<W>) -> fmt::Result {
+        match self {
+            Fault::IllFormed => f.write_str("ILL-FORMED, it is not well-formed UTF-8"),
+        }
+    }
+}
+
+impl Error for Fault {}
 
 // Whether b lies from low to high.
 fn within(low: u8, b: u8, high: u8) -> bool
@@ -22,6 +37,7 @@ fn within(low: u8, b: u8, high: u8) -> bool
 }
 
 /// Whether the text is well-formed UTF-8, by an arm for each row of table 3-7 of the Unicode Standard.
+// Stays: named bytes and a guard for each row is the project's rule; with `&` between the tests the proof has one goal for each row.
 pub fn well_formed(text: &[u8]) -> Result<(), Fault>
     ensures table { Decides (is_ok result) (WellFormed text.now) }
     ensures encoding { Decides (is_ok result) (Encodes text.now) }

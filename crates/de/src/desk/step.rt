@@ -1,13 +1,14 @@
 //! One question, by the innermost place's state.
 
-ghost use Rattle.std.specs.Prelude.{◌≡◌, ◌<◌, ◌≤◌, length};
+ghost use Rattle.std.specs.Prelude.{◌<◌, ◌≤◌};
 ghost use Rattle.document.specs.Reader.{Reading, answer};
-ghost use Rattle.nodes.specs.Stack.{stack, top, opening};
+ghost use Rattle.nodes.specs.Stack.{top};
 ghost use Rattle.de.specs.Moves.{sheets};
 ghost use Rattle.de.specs.Steps.{on_question, plan, is_deep, Aims, Took};
 ghost use Rattle.de.specs.Standing.{Stands, Told};
 
 use super::Desk;
+use crate::columns::Source;
 use crate::heard::Heard;
 use column::interface::Column;
 use document::questions::{Answer, Question};
@@ -15,32 +16,17 @@ use document::refusals::Refusal;
 use nodes::places::{MOST_OPEN, State};
 
 impl Desk {
-    /// A place is opened, where an answer opens one.
-    fn open(&mut self, opened: Option<State>)
-        requires { length (opening opened (stack self.old.places)) ≤ 32 }
-        ensures states { stack self.new.places ≡ opening opened (stack self.old.places) }
-        ensures table { length self.new.places.table ≡ length self.old.places.table }
-        ensures tables { self.new.tables ≡ self.old.tables }
-    {
-        if let Some(state) = opened {
-            match self.places.open(state) {
-                Ok(()) => {}
-                Err(_) => unreachable(),
-            }
-        }
-    }
-
     /// The step: what the question does to the innermost place, and to the tables.
+    // Stays: one match on the place's state and the question, as the project's rule has it for the writer's and the reader's step alike.
     fn take<C: Column>(
         &mut self,
-        kind: &C,
-        input: &[u8],
+        source: &Source<'_, C>,
         question: Question,
     ) -> Result<Heard, Refusal>
         requires some { 0 < self.old.places.depth }
         requires depth { self.old.places.depth ≤ 32 }
-        requires aims { Aims input.now (sheets self.old.tables) (on_question (top self.old.places)) }
-        ensures { Took (C.Column.meaning kind.now) input.now question (is_deep self.old) self.old self.new result (plan (top self.old.places) question) }
+        requires aims { Aims source.now.input.now (sheets self.old.tables) (on_question (top self.old.places)) }
+        ensures { Took (C.Column.meaning source.now.kind.now) source.now.input.now question (is_deep self.old) self.old self.new result (plan (top self.old.places) question) }
     {
         let deep = self.places.depth == MOST_OPEN;
         let place = &mut self.places.table[self.places.depth - 1];
@@ -53,10 +39,7 @@ impl Desk {
                 Question::End,
             ) => {
                 place.state = State::Closing;
-                Ok(Heard {
-                    answer: Answer::End,
-                    opened: None,
-                })
+                Ok(Heard::shut(Answer::End))
             }
             (_, Question::End) => Err(Refusal::Count),
             (
@@ -68,43 +51,40 @@ impl Desk {
                 _,
             ) => Err(Refusal::Count),
             (State::Root, _) => {
-                let heard = self.tables.respond(kind, input, 1, question, false)?;
+                let heard = self.tables.respond(source, 1, question, false)?;
                 place.state = heard.opened.unwrap_or(State::Closing);
-                Ok(Heard {
-                    answer: heard.answer,
-                    opened: None,
-                })
+                Ok(Heard::shut(heard.answer))
             }
             (State::Items { node, left }, _) => {
-                let heard = self.tables.respond(kind, input, *node, question, deep)?;
+                let heard = self.tables.respond(source, *node, question, deep)?;
                 *left -= 1;
                 Ok(heard)
             }
             (State::Keys { node, left }, _) => {
                 let (node, left) = (*node, *left - 1);
-                let heard = self.tables.respond(kind, input, node, question, deep)?;
+                let heard = self.tables.respond(source, node, question, deep)?;
                 place.state = State::Vals { node, left };
                 Ok(heard)
             }
             (State::Vals { node, left }, _) => {
                 let (node, left) = (*node, *left);
-                let heard = self.tables.respond(kind, input, node + 1, question, deep)?;
+                let heard = self.tables.respond(source, node + 1, question, deep)?;
                 place.state = State::Keys { node, left };
                 Ok(heard)
             }
             (State::Fields { node, left }, _) => {
-                let heard = self.tables.respond(kind, input, *node, question, deep)?;
+                let heard = self.tables.respond(source, *node, question, deep)?;
                 *node += 1;
                 *left -= 1;
                 Ok(heard)
             }
             (State::Lone { node, left }, _) => {
-                let heard = self.tables.respond(kind, input, *node, question, deep)?;
+                let heard = self.tables.respond(source, *node, question, deep)?;
                 *left -= 1;
                 Ok(heard)
             }
             (State::One { node }, _) => {
-                let heard = self.tables.respond(kind, input, *node, question, deep)?;
+                let heard = self.tables.respond(source, *node, question, deep)?;
                 place.state = State::Closing;
                 Ok(heard)
             }
@@ -114,19 +94,17 @@ impl Desk {
     /// One question.
     pub(crate) fn ask<C: Column>(
         &mut self,
-        kind: &C,
-        input: &[u8],
+        source: &Source<'_, C>,
         question: Question,
     ) -> Result<Answer, Refusal>
-        requires { ∥ ((R : Reading) × Stands self.old input.now R) ∥₁ }
-        ensures { (R : Reading) → Stands self.old input.now R → Told input.now R self.old self.new (answer (C.Column.meaning kind.now) R.store R.places question) result }
+        requires { ∥ ((R : Reading) × Stands self.old source.now.input.now R) ∥₁ }
+        ensures { (R : Reading) → Stands self.old source.now.input.now R → Told source.now.input.now R self.old self.new (answer (C.Column.meaning source.now.kind.now) R.store R.places question) result }
     {
         if self.places.depth == 0 {
             return Err(Refusal::Complete);
         }
-        let heard = self.take(kind, input, question)?;
-        self.open(heard.opened);
-        self.places.settle();
+        let heard = self.take(source, question)?;
+        self.places.turn(heard.opened).unwrap();
         Ok(heard.answer)
     }
 }

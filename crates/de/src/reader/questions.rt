@@ -1,12 +1,14 @@
 //! A reader begins, is asked, and finishes.
 
-ghost use Rattle.std.specs.Prelude.{◌≡◌, if◌then◌else◌, vec_len, nat_lt, slice_set};
+ghost use Rattle.std.specs.Prelude.{◌≡◌, vec_len};
 ghost use Rattle.document.specs.Reader.{Reading, begin, answer};
+ghost use Rattle.nodes.specs.Children.{rooted};
 ghost use Rattle.de.specs.Moves.{root_node};
 ghost use Rattle.de.specs.Standing.{finishing};
 ghost use Rattle.de.specs.Readers.{StandsFor, Tells, KeepsLengths};
 
 use super::Reader;
+use crate::columns::Source;
 use crate::desk::Desk;
 use crate::records::Node;
 use crate::store::Tables;
@@ -23,11 +25,12 @@ pub struct Parts {
 
 impl<'a, C: Column> Reader<'a, C> {
     /// A reader of this input over these tables, whose lengths are its budget. What they hold counts for nothing, and but for the root's record it stays.
+    // Stays: two vectors, as callers have them before there is a reader to give them back in `Parts`.
     pub fn new(kind: &'a C, input: &'a [u8], nodes: Vec<Node>, slots: Vec<u64>) -> Reader<'a, C>
         ensures stands { StandsFor result (begin (vec_len nodes) (vec_len slots) input.now) }
         ensures kind { result.kind.now ≡ kind.now }
         ensures input { result.input.now ≡ input.now }
-        ensures nodes { result.desk.tables.nodes.items ≡ (if nat_lt 1 (vec_len nodes) then slice_set nodes.items 1 root_node else nodes.items) }
+        ensures nodes { result.desk.tables.nodes.items ≡ rooted nodes.items root_node }
         ensures slots { result.desk.tables.slots ≡ slots }
     {
         let desk = Desk::start(nodes, slots);
@@ -42,7 +45,11 @@ impl<'a, C: Column> Reader<'a, C> {
         ensures kind { self.new.kind ≡ self.old.kind }
         ensures input { self.new.input ≡ self.old.input }
     {
-        self.desk.ask(self.kind, self.input, question)
+        let source = Source {
+            kind: self.kind,
+            input: self.input,
+        };
+        self.desk.ask(&source, question)
     }
 
     /// Whether the document is complete and no byte is left: `Early` where a place is open, then `Left` where bytes are left.
@@ -52,7 +59,7 @@ impl<'a, C: Column> Reader<'a, C> {
         if self.desk.places.depth > 0 {
             return Err(Refusal::Early);
         }
-        if self.desk.tables.place < self.input.len() {
+        if self.desk.tables.spot.place < self.input.len() {
             return Err(Refusal::Left);
         }
         Ok(())
@@ -63,20 +70,7 @@ impl<'a, C: Column> Reader<'a, C> {
         ensures nodes { result.nodes ≡ self.entry.desk.tables.nodes }
         ensures slots { result.slots ≡ self.entry.desk.tables.slots }
     {
-        let Reader {
-            kind: _,
-            input: _,
-            desk,
-        } = self;
-        let Desk { tables, places: _ } = desk;
-        let Tables {
-            nodes,
-            slots,
-            used: _,
-            taken: _,
-            place: _,
-            columns: _,
-        } = tables;
+        let Tables { nodes, slots, .. } = self.desk.tables;
         Parts { nodes, slots }
     }
 }

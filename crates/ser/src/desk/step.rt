@@ -1,9 +1,9 @@
 //! One call, by the innermost place's state.
 
-ghost use Rattle.std.specs.Prelude.{◌≡◌, ◌+◌, ◌<◌, ◌≤◌, [], length};
+ghost use Rattle.std.specs.Prelude.{◌<◌};
 ghost use Rattle.document.specs.Said.{said};
 ghost use Rattle.document.specs.Verdict.{Real};
-ghost use Rattle.nodes.specs.Stack.{stack, top, opening};
+ghost use Rattle.nodes.specs.Stack.{top};
 ghost use Rattle.ser.specs.Moves.{sheets};
 ghost use Rattle.ser.specs.Steps.{outcome, calling, Took, Did};
 ghost use Rattle.ser.specs.Safe.{Safe};
@@ -15,22 +15,8 @@ use document::refusals::Refusal;
 use nodes::places::{MOST_OPEN, State};
 
 impl Desk {
-    /// A place is opened, where the value opens one.
-    fn open(&mut self, opened: Option<State>)
-        requires room { length (opening opened []) + self.old.places.depth ≤ 32 }
-        ensures states { stack self.new.places ≡ opening opened (stack self.old.places) }
-        ensures table { length self.new.places.table ≡ length self.old.places.table }
-        ensures tables { self.new.tables ≡ self.old.tables }
-    {
-        if let Some(state) = opened {
-            match self.places.open(state) {
-                Ok(()) => {}
-                Err(_) => unreachable(),
-            }
-        }
-    }
-
     /// The step: what the call does to the innermost place, and to the tables.
+    // Stays: one match on the place's state and the call, as the project's rule has it for the writer's and the reader's step alike.
     fn take(&mut self, call: Call, deep: bool) -> Result<Option<State>, Refusal>
         requires safe { Safe self.old }
         requires some { 0 < self.old.places.depth }
@@ -118,8 +104,7 @@ impl Desk {
             return Err(Refusal::Complete);
         }
         let opened = self.take(call, deep)?;
-        self.open(opened);
-        self.places.settle();
+        self.places.turn(opened).unwrap();
         Ok(())
     }
 }

@@ -1,8 +1,9 @@
 //! A writer begins, takes calls, closes, and is written out.
 
-ghost use Rattle.std.specs.Prelude.{◌≡◌, List, [], if◌then◌else◌, vec_len, nat_lt, slice_set};
+ghost use Rattle.std.specs.Prelude.{◌≡◌, List, [], vec_len};
 ghost use Rattle.document.specs.Calls.{Call as Said};
 ghost use Rattle.document.specs.Said.{said};
+ghost use Rattle.nodes.specs.Children.{rooted};
 ghost use Rattle.ser.specs.Moves.{blank_node};
 ghost use Rattle.ser.specs.Standing.{Stands, Told, WrittenOut};
 
@@ -13,6 +14,7 @@ use crate::store::Tables;
 use column::interface::Column;
 use document::calls::Call;
 use document::refusals::Refusal;
+use nodes::children::rooted;
 use nodes::places::Places;
 
 /// The tables of a writer, as its caller gets them back.
@@ -23,26 +25,16 @@ pub struct Parts {
     pub text: Vec<u8>,
 }
 
-/// A blank record for the root, if the table has one.
-fn rooted(mut nodes: Vec<Node>) -> Vec<Node>
-    ensures items { result.items ≡ (if nat_lt 1 (vec_len nodes) then slice_set nodes.items 1 blank_node else nodes.items) }
-    ensures length { vec_len result ≡ vec_len nodes }
-{
-    if nodes.len() > 1 {
-        nodes[1] = Node::blank();
-    }
-    nodes
-}
-
 impl Writer {
     /// A writer over these tables, whose lengths are its budget. What they hold counts for nothing, and but for the root's record it stays.
+    // Stays: three vectors, as callers have them before there is a writer to give them back in `Parts`.
     pub fn new(nodes: Vec<Node>, cells: Vec<Cell>, text: Vec<u8>) -> Writer
         ensures stands { Stands result.desk [] }
-        ensures nodes { result.desk.tables.nodes.items ≡ (if nat_lt 1 (vec_len nodes) then slice_set nodes.items 1 blank_node else nodes.items) }
+        ensures nodes { result.desk.tables.nodes.items ≡ rooted nodes.items blank_node }
         ensures cells { result.desk.tables.cells ≡ cells }
         ensures text { result.desk.tables.text ≡ text }
     {
-        let nodes = rooted(nodes);
+        let nodes = rooted(nodes, Node::blank());
         let tables = Tables {
             nodes,
             cells,
@@ -71,8 +63,7 @@ impl Writer {
     pub fn close(self) -> Closed
         ensures { result.desk ≡ self.desk }
     {
-        let Writer { desk } = self;
-        Closed { desk }
+        Closed { desk: self.desk }
     }
 }
 
@@ -100,17 +91,12 @@ impl Closed {
         ensures cells { result.cells ≡ self.desk.tables.cells }
         ensures text { result.text ≡ self.desk.tables.text }
     {
-        let Closed { desk } = self;
-        let Desk { tables, places: _ } = desk;
         let Tables {
             nodes,
             cells,
             text,
-            used: _,
-            taken: _,
-            filled: _,
-            marked: _,
-        } = tables;
+            ..
+        } = self.desk.tables;
         Parts { nodes, cells, text }
     }
 }

@@ -1,7 +1,7 @@
-use Rattle.std.proofs.Common.{ℕ, ◌+◌, ◌∷◌, get_or, drop, sym, refl, ap, ◌∙◌, arith}
+use Rattle.std.proofs.Common.{ℕ, ◌+◌, ◌∷◌, get_or, drop, sym, ap, ◌∙◌, arith}
 use Rattle.std.proofs.lemmas.List.{drop_more}
 use Rattle.column.specs.Steps.{sums}
-use Rattle.column.proofs.Differences.{added, changed-more, changed-all}
+use Rattle.column.proofs.Differences.{added, changed-more}
 use Rattle.column.proofs.steps.add_up.Goals as goal
 
 pub loop-value-preserved : goal.loop-value-preserved
@@ -12,6 +12,3 @@ loop-value-preserved c =
     let last = c.loop-value.last in
     let sum = sym (added w c.args.top c.requires.width c.requires.top (last + get_or vs i 0)) in
     changed-more (sums w last) (sums w _) vs i _ _ (omega arith) (ap (sums w last) (drop_more vs i 0 (omega arith)) ∙ ap (λ (n : ℕ). n ∷ sums w n (drop (i + 1) vs)) sum) c.loop-value.invariant
-
-pub returns : goal.returns
-returns c = changed-all (sums c.args.width c.loop-value.last) c.loop-value.values c.loop-value.value-index _ refl (omega arith) c.loop-value.invariant

@@ -1,12 +1,9 @@
-use Rattle.std.proofs.Common.{ℕ, ◌+◌, ◌∷◌, get_or, drop, sym, refl, ap, ◌∙◌, subst, arith, pow_pos}
+use Rattle.std.proofs.Common.{ℕ, ◌+◌, ◌∷◌, get_or, drop, sym, ap, ◌∙◌, subst, arith}
 use Rattle.std.proofs.lemmas.List.{drop_more, drop-set-lt}
 use Rattle.column.specs.Widths.{Below}
 use Rattle.column.specs.Steps.{differences}
-use Rattle.column.proofs.Differences.{subtracted, changed-more, changed-all}
+use Rattle.column.proofs.Differences.{subtracted, changed-more}
 use Rattle.column.proofs.steps.subtract.Goals as goal
-
-pub loop-value-init : goal.loop-value-init
-loop-value-init c = (refl, pow_pos c.args.width, c.requires.below)
 
 pub loop-value-preserved : goal.loop-value-preserved
 loop-value-preserved c =
@@ -21,6 +18,3 @@ loop-value-preserved c =
       both.0,
       subst (Below w) (sym (drop-set-lt (i + 1) vs i _ (omega arith))) both.1,
     )
-
-pub returns : goal.returns
-returns c = changed-all (differences c.args.width c.loop-value.last) c.loop-value.values c.loop-value.value-index _ refl (omega arith) c.loop-value.invariant.0

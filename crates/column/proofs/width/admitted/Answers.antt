@@ -1,23 +1,23 @@
-use Rattle.std.proofs.Common.{◌≡◌, true, false, sym, ◌∙◌, rules}
-use Rattle.std.proofs.lemmas.List.{at_drop_all}
+use Rattle.std.proofs.Common.{◌≡◌, true, false, nat_le, sym, ◌∙◌, rules, tests}
+use Rattle.std.proofs.lemmas.Iterator.{YieldsList-from_slice}
+use Rattle.std.proofs.lemmas.Iterator.Search.{all_from_yields_List}
 use Rattle.column.specs.Widths.{listed, below}
 use Rattle.column.proofs.Choice.{chose}
-use Rattle.column.proofs.Widths.{below_more, below-never}
+use Rattle.column.proofs.Widths.{below-all}
 use Rattle.column.proofs.width.admitted.Goals as goal
 
-pub loop-value-preserved : goal.loop-value-preserved
-loop-value-preserved c =
+pub returns-then-all : goal.returns-then-all
+returns-then-all c =
+    let vs = c.args.values.now in
     let top = chose (listed c.args.width) _ _ _ c.in_ok-top.ensures in
-    sym (below_more c.args.width c.args.values.now c.loop-value.value-index _ c.loop-value-test.true top.1 c.if-value-top.false) ∙ c.loop-value.invariant
-
-pub returns-then-value-top : goal.returns-then-value-top
-returns-then-value-top c =
-    let top = chose (listed c.args.width) _ _ _ c.in_ok-top.ensures in
-    let no : below c.args.width c.args.values.now ≡ false = sym c.loop-value.invariant ∙ below-never c.args.width c.args.values.now c.loop-value.value-index _ c.loop-value-test.true top.1 c.if-value-top.true in
+    let tested = all_from_yields_List (λ v. nat_le v c.in_ok-top.top) _ _ c.all.result c.all.ensures.ran (YieldsList-from_slice vs cc) (λ x b q k. search (rules, tests)) in
+    let fits : below c.args.width vs ≡ true = sym (below-all c.args.width c.in_ok-top.top top.1 vs) ∙ sym tested ∙ c.if-all.true in
     search rules
 
-pub returns : goal.returns
-returns c =
+pub returns-else-all : goal.returns-else-all
+returns-else-all c =
+    let vs = c.args.values.now in
     let top = chose (listed c.args.width) _ _ _ c.in_ok-top.ensures in
-    let yes : below c.args.width c.args.values.now ≡ true = sym c.loop-value.invariant ∙ at_drop_all (below c.args.width) c.args.values.now c.loop-value.value-index c.loop-value-test.false in
+    let tested = all_from_yields_List (λ v. nat_le v c.in_ok-top.top) _ _ c.all.result c.all.ensures.ran (YieldsList-from_slice vs cc) (λ x b q k. search (rules, tests)) in
+    let fails : below c.args.width vs ≡ false = sym (below-all c.args.width c.in_ok-top.top top.1 vs) ∙ sym tested ∙ c.if-all.false in
     search rules

@@ -1,45 +1,28 @@
-use Rattle.std.proofs.Common.{map, sym, ap, ◌∙◌}
+use Rattle.std.proofs.Common.{◌<◌, map, length, ◌∙◌, rules}
+use borrow.Author.Tests.{tests}
+use Rattle.std.proofs.ByRecursion.{All-weaker}
+use Rattle.std.proofs.lemmas.Iterator.{first_from_find}
+use Rattle.std.proofs.lemmas.List.{length-map}
 use Rattle.chain.specs.Chains.{course}
-use Rattle.chain.specs.Walks.{table_of, place_of}
-use Rattle.chain.proofs.Courses.{walk_turn, walk_end}
-use Rattle.nodes.specs.Children.{seek}
-use Rattle.nodes.proofs.Seeking.{index_at, seek-past, seek-here}
+use Rattle.chain.proofs.Courses.{course-within}
+use Rattle.chain.proofs.Walking.{YieldsList-from_walk, serves_from_walk}
+use Rattle.nodes.proofs.Seeking.{Hit, Miss, seek-first}
 use Rattle.nodes.proofs.children.find.Goals as goal
 
--- the walk begins at the first child
-pub loop-k-init : goal.loop-k-init
-loop-k-init g c =
-    let rs = c.args.table.now in (
-      tt,
-      tt,
-      ap table_of c.into_iter-k-iterator.ensures.into_iter_gives ∙ c.walk-k-items.ensures.table,
-      ap (λ k. seek (map g.R.Indexed.index_of rs) c.args.index (course (map g.R.Linked.next_of rs) k)) (ap place_of c.into_iter-k-iterator.ensures.into_iter_gives ∙ c.walk-k-items.ensures.place),
-    )
-
 -- each record of the walk is one of the table
-pub bounds-table-k : goal.bounds-table-k
-bounds-table-k g c = (walk_turn g.R.Linked.next_of c.args.table.now c.loop-k.k-iterator c.next.new.self c.in-Some.k c.loop-k.invariant.2 c.in-Some.ensures.steps).3
+pub find-requires-clause-callable : goal.find-requires-clause-callable
+find-requires-clause-callable g c = let e = c.walk.ensures.table in serves_from_walk g.R.Linked.next_of (λ x q k. search rules) (λ x l. search rules)
 
--- a child with another index is passed over
-pub loop-k-preserved : goal.loop-k-preserved
-loop-k-preserved g c =
-    let rs = c.args.table.now in
-    let k = c.in-Some.k in
-    let s = walk_turn g.R.Linked.next_of rs c.loop-k.k-iterator c.next.new.self k c.loop-k.invariant.2 c.in-Some.ensures.steps in
-    let at = c.index.ensures ∙ index_at g.R.Indexed.index_of rs k c.index-table-k.result s.3 c.index-table-k.is in
-    (tt, tt, s.0, seek-past (map g.R.Indexed.index_of rs) c.args.index k _ _ c.index.result s.1 at c.if-index.false ∙ c.loop-k.invariant.3)
-
--- the first with the index is the child
-pub returns-then-index : goal.returns-then-index
-returns-then-index g c =
-    let rs = c.args.table.now in
-    let k = c.in-Some.k in
-    let s = walk_turn g.R.Linked.next_of rs c.loop-k.k-iterator c.next.new.self k c.loop-k.invariant.2 c.in-Some.ensures.steps in
-    let at = c.index.ensures ∙ index_at g.R.Indexed.index_of rs k c.index-table-k.result s.3 c.index-table-k.is in
-    seek-here (map g.R.Indexed.index_of rs) c.args.index k _ _ c.index.result s.1 at c.if-index.true ∙ c.loop-k.invariant.3
-
--- none is left
+-- the first child with the index is found
 pub returns : goal.returns
 returns g c =
-    let rs = c.args.table.now in
-    sym (ap (seek (map g.R.Indexed.index_of rs) c.args.index) (walk_end g.R.Linked.next_of rs c.loop-k.k-iterator c.next.new.self c.loop-k.invariant.2 c.in-None.ensures.steps)) ∙ c.loop-k.invariant.3
+    let t = c.args.table.now in
+    let next_of = g.R.Linked.next_of in
+    let index_of = g.R.Indexed.index_of in
+    let ks = course (map next_of t) c.args.children.first in
+    let within = All-weaker _ (λ k. k < length t) (λ k h. simp length-map at h.1) ks (course-within (map next_of t) c.args.children.first) in
+    c.unwrap_or.ensures
+    ∙ seek-first index_of t c.args.index ks c.find.result within
+    (first_from_find c.find.new.self _ c.find.result (Hit index_of t c.args.index) (Miss index_of t c.args.index)
+    c.find.ensures.ran (YieldsList-from_walk next_of t c.args.children.first c.walk.ensures.table c.walk.ensures.place)
+    (λ x q k. search (rules, tests)) (λ x q k. search (rules, tests)))

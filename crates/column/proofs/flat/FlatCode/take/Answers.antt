@@ -1,16 +1,12 @@
-use Rattle.std.proofs.Common.{ℕ, take, drop, Ok, ap, ◌∙◌, arith, length-drop}
-use Rattle.column.specs.Digits.{total}
-use Rattle.column.proofs.LowFirst.{one-short, one-got}
+use Rattle.std.proofs.Common.{ℕ, Ok, ap, ◌∙◌, arith}
+use Rattle.column.proofs.LowFirst.{number-whole, one-got}
 use Rattle.column.proofs.flat.FlatCode.take.Goals as goal
-
-pub returns-then-size-input : goal.returns-then-size-input
-returns-then-size-input c =
-    let bs = drop c.args.place c.args.input.now in
-    one-short c.args.layer c.args.width bs (omega (arith, c.ranges.layer)) (simp length-drop (omega (arith, c.size_of-size.ensures, c.if-size-input.true)))
 
 pub returns : goal.returns
 returns c =
-    let bs = drop c.args.place c.args.input.now in
+    let bs = c.args.bytes.now in
+    let value = c.from_le_bytes-value.result in
     let size = c.size_of-size.ensures in
-    ap (λ (n : ℕ). Ok (record { value = c.number_at-value.result; size = n })) size
-    ∙ one-got c.args.layer c.args.width bs c.number_at-value.result c.requires.0 (simp length-drop (omega (arith, size, c.if-size-input.false))) (c.number_at-value.ensures ∙ ap (λ (n : ℕ). total 256 (take n bs)) size) c.else-width-eq1.either
+    let number = number-whole c.args.width bs c.copy_from_slice.new.self c.size_of-size.result value c.requires size c.if-size-bytes.false (λ i. omega (arith, c.type_inv.bytes i)) c.copy_from_slice.ensures.after c.from_le_bytes-value.type_inv c.from_le_bytes-value.ensures in
+    ap (λ (n : ℕ). Ok (record { value = value; size = n })) size
+    ∙ one-got c.args.layer c.args.width bs value c.requires (omega (arith, size, c.if-size-bytes.false)) number c.else-width-eq1.either

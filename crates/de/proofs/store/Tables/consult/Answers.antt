@@ -13,35 +13,29 @@ use Rattle.de.proofs.Asking.{marking_is}
 use Rattle.de.proofs.Consulted.{bytes_of, has_root, look_safe, Looked, Listened, hear_safely, consulted_view, consulted_answer, consulted_depth, consulted_nodes, consulted_ok, take_safe, branch_safe}
 use Rattle.de.proofs.Sizes.{lengths_taken, lengths_branched}
 use Rattle.de.proofs.store.Tables.consult.Given.{Over}
-use Rattle.de.proofs.store.Tables.consult.Goals.{After-look, After-hear, After-branch-child}
+use Rattle.de.proofs.store.Tables.consult.Goals.{After-look, After-hear}
 use Rattle.de.proofs.store.Tables.consult.Goals as goal
 
 -- the node was looked at, which told this
 looked : (g : Over) (c : After-look g) (told : Result View Refusal) → c.look.result ≡ told
-    → Looked (g.C.Column.meaning c.args.kind.now) c.args.input.now (sheets c.args.self.now) (sheets c.look.new.self) c.args.r c.args.question told
+    → Looked (g.C.Column.meaning c.args.source.now.kind.now) c.args.source.now.input.now (sheets c.args.self.now) (sheets c.look.new.self) c.args.r c.args.question told
 looked g c told is =
     record {
-      law = g.met.C.Column.lawful c.args.kind.now;
-      bytes = bytes_of c.args.input.now (λ i. omega (arith, c.type_inv.input i));
+      law = g.met.C.Column.lawful c.args.source.now.kind.now;
+      bytes = bytes_of c.args.source.now.input.now c.args.source.now.bytes;
       some = has_root c.args.self.now c.requires.rooted;
       spares = c.look.ensures.spared;
-      looks = λ a q. subst (Looks (g.C.Column.meaning c.args.kind.now) c.args.input.now (sheets c.args.self.now) c.look.new.self.slots.items c.args.r (asks a)) is (c.look.ensures.answer (asks a) (c.mark_of.ensures ∙ ap marking q ∙ marking_is a));
+      looks = λ a q. subst (Looks (g.C.Column.meaning c.args.source.now.kind.now) c.args.source.now.input.now (sheets c.args.self.now) c.look.new.self.slots.items c.args.r (asks a)) is (c.look.ensures.answer (asks a) (c.mark_of.ensures ∙ ap marking q ∙ marking_is a));
     }
 
 -- its next value was heard, which told this
-listened : (g : Over) (c : After-hear g) (told : Result Answer Refusal) → c.hear.result ≡ told → Looked (g.C.Column.meaning c.args.kind.now) c.args.input.now (sheets c.args.self.now) (sheets c.look.new.self) c.args.r c.args.question (Ok c.in_ok-view.view)
-    → Listened (g.C.Column.meaning c.args.kind.now) c.args.input.now (sheets c.args.self.now) (sheets c.look.new.self) c.args.r c.args.question c.in_ok-view.view told
+listened : (g : Over) (c : After-hear g) (told : Result Answer Refusal) → c.hear.result ≡ told → Looked (g.C.Column.meaning c.args.source.now.kind.now) c.args.source.now.input.now (sheets c.args.self.now) (sheets c.look.new.self) c.args.r c.args.question (Ok c.in_ok-view.view)
+    → Listened (g.C.Column.meaning c.args.source.now.kind.now) c.args.source.now.input.now (sheets c.args.self.now) (sheets c.look.new.self) c.args.r c.args.question c.in_ok-view.view told
 listened g c told is found = record { looked = found; hears = λ a cs q h. subst (HeardAs a cs c.in_ok-view.view.node.text) is (c.hear.ensures a cs q h) }
-
--- the answer opens no place too many
-answered : (g : Over) (c : After-branch-child g) → Listened (g.C.Column.meaning c.args.kind.now) c.args.input.now (sheets c.args.self.now) (sheets c.look.new.self) c.args.r c.args.question c.in_ok-view.view (Ok c.in_ok-answer.answer)
-answered g c =
-    let h = goal.at.lacks_child-requires g c in
-    listened g h.After-hear (Ok c.in_ok-answer.answer) c.in_ok-answer.was (looked g h.After-look (Ok c.in_ok-view.view) c.in_ok-view.was)
 
 -- looking is safe
 pub look-requires : goal.look-requires
-look-requires g c = look_safe c.args.input.now (sheets c.args.self.now) c.args.r c.requires.readable (has_root c.args.self.now c.requires.rooted)
+look-requires g c = look_safe c.args.source.now.input.now (sheets c.args.self.now) c.args.r c.requires.readable (has_root c.args.self.now c.requires.rooted)
 
 -- looking refuses
 pub returns-in_err-view : goal.returns-in_err-view
@@ -63,31 +57,25 @@ returns-in_err-answer g c =
     rw told (consulted_answer (listened g h.After-hear (Err e) c.in_err-answer.was (looked g h.After-look (Ok c.in_ok-view.view) c.in_ok-view.was)) c.args.deep)
 
 -- a place too many
-pub returns-then-full : goal.returns-then-full
-returns-then-full g c =
-    let h = goal.at.returns-then-full g c in
+pub returns-then-opens_place : goal.returns-then-opens_place
+returns-then-opens_place g c =
+    let h = goal.at.returns-then-opens_place g c in
     let full : (c.args.deep && opens_place c.in_ok-answer.answer) ≡ true = search rules in
     consulted_depth (listened g h.After-hear (Ok c.in_ok-answer.answer) c.in_ok-answer.was (looked g h.After-look (Ok c.in_ok-view.view) c.in_ok-view.was)) c.args.deep full
-
--- the records are counted in range
-pub lacks_child-requires : goal.lacks_child-requires
-lacks_child-requires g c =
-    let safe = look_safe c.args.input.now (sheets c.args.self.now) c.args.r c.requires.readable (has_root c.args.self.now c.requires.rooted) in
-    omega (arith, safe.used, c.look.ensures.spared.used)
 
 -- no record for a new branch
 pub returns-then-lacks_child : goal.returns-then-lacks_child
 returns-then-lacks_child g c =
     let shallow : (c.args.deep && opens_place c.in_ok-answer.answer) ≡ false = search rules in
     let index = c.index_of-index.ensures in
-    consulted_nodes (answered g (goal.at.returns-then-lacks_child g c).After-branch-child) c.args.deep shallow c.branch-child.result
+    consulted_nodes (listened g (goal.at.returns-then-lacks_child g c).After-hear (Ok c.in_ok-answer.answer) c.in_ok-answer.was (looked g (goal.at.returns-then-lacks_child g c).After-look (Ok c.in_ok-view.view) c.in_ok-view.was)) c.args.deep shallow c.branch-child.result
     (c.branch-child.ensures ∙ ap (branch_in (sheets c.look.new.self) c.in_ok-view.view.node) index) (sym (c.lacks_child.ensures ∙ ap (lacks_child (sheets c.look.new.self) c.branch-child.result) index) ∙ c.if-lacks_child.true)
 
 -- taking the answer is safe
 pub take_in-requires : goal.take_in-requires
 take_in-requires g c =
-    let short : length c.args.input.now < 2 ^ 64 = omega arith in
-    rw c.letters_of.ensures (take_safe (answered g (goal.at.take_in-requires g c).After-branch-child) c.requires.readable c.requires.asks.0 c.requires.asks.1 short)
+    let short : length c.args.source.now.input.now < 2 ^ 64 = omega arith in
+    rw c.letters_of.ensures (take_safe (listened g (goal.at.take_in-requires g c).After-hear (Ok c.in_ok-answer.answer) c.in_ok-answer.was (looked g (goal.at.take_in-requires g c).After-look (Ok c.in_ok-view.view) c.in_ok-view.was)) c.requires.readable c.requires.asks.0 c.requires.asks.1 short)
 
 -- so is a record for a new branch
 pub branch_out-child-requires : goal.branch_out-child-requires
@@ -95,12 +83,12 @@ branch_out-child-requires g c =
     let index = c.index_of-index.ensures in
     let lacks = sym (ap (lacks_child (sheets c.look.new.self) c.branch-child.result) index) ∙ sym c.lacks_child.ensures ∙ c.if-lacks_child.false in
     rw (c.take_in.ensures, c.letters_of.ensures, index)
-    (branch_safe (answered g (goal.at.branch_out-child-requires g c).After-branch-child) c.requires.readable c.requires.asks.0 c.requires.asks.1 c.branch-child.result lacks)
+    (branch_safe (listened g (goal.at.branch_out-child-requires g c).After-hear (Ok c.in_ok-answer.answer) c.in_ok-answer.was (looked g (goal.at.branch_out-child-requires g c).After-look (Ok c.in_ok-view.view) c.in_ok-view.was)) c.requires.readable c.requires.asks.0 c.requires.asks.1 c.branch-child.result lacks)
 
 -- the record is in the table that is as long as it was
 pub opened-opened-requires : goal.opened-opened-requires
 opened-opened-requires g c =
-    let safe = look_safe c.args.input.now (sheets c.args.self.now) c.args.r c.requires.readable (has_root c.args.self.now c.requires.rooted) in
+    let safe = look_safe c.args.source.now.input.now (sheets c.args.self.now) c.args.r c.requires.readable (has_root c.args.self.now c.requires.rooted) in
     let V = sheets c.take_in.new.self in
     let e = ap (λ T. length T.nodes) c.branch_out-child.ensures.tables ∙ (lengths_branched c.args.r c.branch-child.result c.index_of-index.result V).nodes
     ∙ ap (λ T. length T.nodes) c.take_in.ensures ∙ (lengths_taken c.args.r c.in_ok-view.view c.letters_of.result (sheets c.look.new.self)).nodes ∙ ap length c.look.ensures.spared.nodes in
@@ -118,5 +106,5 @@ returns g c =
     let tables = c.branch_out-child.ensures.tables ∙ ap (λ o. branched c.args.r c.branch-child.result o (sheets c.take_in.new.self)) index ∙ ap (branched c.args.r c.branch-child.result (branching c.in_ok-answer.answer)) V in
     let place = c.branch_out-child.ensures.place ∙ ap (λ o. branch_then c.branch-child.result o (sheets c.take_in.new.self)) index ∙ ap (branch_then c.branch-child.result (branching c.in_ok-answer.answer)) V in
     let opened = c.opened-opened.ensures ∙ ap (λ k. opened_at (sheets c.branch_out-child.new.self) c.args.r k c.args.question c.in_ok-answer.answer) place in
-    subst (λ o. Consulted (g.C.Column.meaning c.args.kind.now) c.args.input.now c.args.r c.args.question c.args.deep (sheets c.args.self.now) (sheets c.branch_out-child.new.self) (Ok (record { answer = c.in_ok-answer.answer; opened = o }))) (sym opened)
-    (consulted_ok (answered g (goal.at.returns g c).After-branch-child) c.args.deep shallow c.branch-child.result at_child lacks (sheets c.branch_out-child.new.self) tables)
+    subst (λ o. Consulted (g.C.Column.meaning c.args.source.now.kind.now) c.args.source.now.input.now c.args.r c.args.question c.args.deep (sheets c.args.self.now) (sheets c.branch_out-child.new.self) (Ok (record { answer = c.in_ok-answer.answer; opened = o }))) (sym opened)
+    (consulted_ok (listened g (goal.at.returns g c).After-hear (Ok c.in_ok-answer.answer) c.in_ok-answer.was (looked g (goal.at.returns g c).After-look (Ok c.in_ok-view.view) c.in_ok-view.was)) c.args.deep shallow c.branch-child.result at_child lacks (sheets c.branch_out-child.new.self) tables)

@@ -1,16 +1,18 @@
-use Rattle.std.proofs.Common.{◌+◌, ap, ◌∙◌}
-use Rattle.std.specs.Vec.{with_items}
+use Rattle.std.proofs.Common.{◌+◌, set, ap, ◌∙◌, arith, length-set}
 use Rattle.chain.specs.Chains.{adjust}
-use Rattle.nodes.proofs.Refill.{refill}
-use Rattle.ser.specs.Moves.{with_mark, with_order}
-use Rattle.ser.proofs.Sheets.{sheets_of}
+use Rattle.ser.specs.Moves.{sheets, with_mark, with_order}
+use Rattle.ser.proofs.Adding.{set-read}
 use Rattle.ser.proofs.store.Tables.name.Goals as goal
 
 -- the mark is written, and then the order
 pub returns : goal.returns
 returns c =
     let t = c.args.self.now in
+    let ns = t.nodes.items in
     let r = c.args.r in
-    let a = refill (adjust (with_mark c.args.mark) r) t.nodes c.set_mark.new.nodes _ c.set_mark.auto.nodes c.deref_mut.ensures.value c.set_mark.ensures in
-    let b = refill (adjust (with_order r) (t.marked + 1)) (with_items t.nodes c.set_mark.new.nodes) c.set_order.new.nodes _ c.set_order.auto.nodes c.deref_mut-2.ensures.value c.set_order.ensures in
-    ap (λ xs. sheets_of xs t.cells.items t.text.items t.used t.taken t.filled (t.marked + 1)) (b ∙ ap (adjust (with_order r) (t.marked + 1)) a)
+    let m = with_mark c.args.mark in
+    let o = with_order r in
+    let old = c.index_mut.result.now in
+    let a = set-read m ns r old c.index_mut.ensures.value (omega (arith, t.nodes.ok.0)) in
+    let b = set-read o (set ns r (m old)) (t.marked + 1) c.index_mut-2.result.now c.index_mut-2.ensures.value (omega (arith, t.nodes.ok.0, length-set ns r (m old))) in
+    ap (λ xs. record (sheets t) { nodes = xs; marked = t.marked + 1 }) (b ∙ ap (adjust o (t.marked + 1)) a)

@@ -1,25 +1,21 @@
-use Rattle.std.proofs.Common.{◌+◌, refl, ap, ◌∙◌, ap₂}
-use Rattle.std.specs.Vec.{with_items}
-use Rattle.std.proofs.lemmas.List.{get_or_read_under}
-use Rattle.chain.specs.Chains.{adjust, appended, longer}
+use Rattle.std.proofs.Common.{◌+◌, length, get_or, ap, ◌∙◌, arith}
+use Rattle.nodes.specs.Children.{with_child}
+use Rattle.nodes.proofs.Adding.{child-added}
 use Rattle.nodes.proofs.Refill.{refill}
-use Rattle.ser.specs.Moves.{blank_node, with_next, with_children}
-use Rattle.ser.proofs.Sheets.{sheets_of}
+use Rattle.ser.specs.Moves.{sheets, blank_node, with_next, with_children}
 use Rattle.ser.proofs.store.Tables.spawn.Goals as goal
 
 -- the new record is the last of r's chain
-pub returns : goal.returns
-returns c =
+pub returns-clause-tables : goal.returns-clause-tables
+returns-clause-tables c =
     let t = c.args.self.now in
-    let ns = t.nodes.items in
-    let r = c.args.r in
-    let place = t.used in
-    let read = ap (λ n. n.children) (get_or_read_under ns r t.nodes.len c.index.result.now blank_node c.index.ensures c.requires.within.0 t.nodes.ok.0) in
-    let a = refill (λ xs. appended with_next xs c.index.result.now.children.last place c.new_child.result) t.nodes c.attach-longer.new.table _ c.attach-longer.auto.table c.deref_mut.ensures.value c.attach-longer.ensures.table in
-    let b = refill (adjust (with_children c.attach-longer.result) r) (with_items t.nodes c.attach-longer.new.table) c.set_children.new.nodes _ c.set_children.auto.nodes c.deref_mut-2.ensures.value c.set_children.ensures in
-    let e = b ∙ ap₂ (λ ch xs. adjust (with_children ch) r xs) c.attach-longer.ensures.answer a
-    ∙ ap₂ (λ ch n. adjust (with_children (longer ch place)) r (appended with_next ns ch.last place n)) read c.new_child.ensures in
-    record {
-      place = refl;
-      tables = ap (λ xs. sheets_of xs t.cells.items t.text.items (t.used + 1) t.taken t.filled t.marked) e;
-    }
+    let T = sheets t in
+    let v = c.deref_mut.ensures.value in
+    let ok = t.nodes.ok.0 in
+    let within = c.requires.within in
+    let size = ap length v in
+    let last = ap (λ ns. (get_or ns c.args.r blank_node).children.last) v in
+    let added = child-added (λ n. n.children) c.deref_mut.result.now c.args.r blank_node (omega arith) with_next (λ n chain. with_children chain n) c.add_child.new.table t.used c.new_child.result c.add_child.result within.1 (omega arith) (omega (arith, c.requires.tail)) c.add_child.ensures.answer c.add_child.ensures.table in
+    let e = refill (λ ns. with_child with_next (λ n chain. with_children chain n) ns (get_or ns c.args.r blank_node).children c.args.r t.used c.new_child.result) t.nodes c.add_child.new.table _ c.add_child.auto.table v added.1 in
+    ap (λ ns. record T { nodes = ns; used = T.used + 1 })
+    (e ∙ ap (with_child with_next (λ n chain. with_children chain n) t.nodes.items (get_or t.nodes.items c.args.r blank_node).children c.args.r t.used) c.new_child.ensures)

@@ -8,5 +8,5 @@ pub returns : goal.returns
 returns c =
     let begun = call-told c.args.writer.now c.call.new.self (val (tuple 3)) (Ok tt) c.in_ok-call.ensures in
     let named = call-next c.call-2.new.self (val (text c.as_bytes.result.now)) (Ok tt) begun c.in_ok-call-2.ensures in
-    let whole = more-told c.tell_cards.new.writer (cards_calls c.args.self.now.cards.now) c.tell_cards.result named c.tell_cards.ensures in
+    let whole = more-told c.tell_list.new.writer (cards_calls c.args.self.now.cards.now) c.tell_list.result named c.tell_list.ensures in
     rw c.as_bytes.ensures.value at whole
