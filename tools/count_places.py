@@ -81,20 +81,24 @@ def enums():
 
 
 def twins():
-    """Pairs of functions whose bodies have one shape, whatever the names, numbers and texts in them."""
+    """Groups of functions whose bodies have one shape, whatever the names, numbers and texts in them."""
     shapes = []
     for path, line, name, _, _, body in FUNCTIONS:
         tokens = re.findall(r"\"[^\"]*\"|b?'[^']*'|\w+|[^\w\s]", body)
         shape = [it if it in KEYWORDS or not re.match(r"[\w\"']", it) else ("T" if it[0].isupper() else "x") for it in tokens]
         if len(shape) >= 20:
             shapes.append((f"{path}:{line} {name}", shape))
-    found = []
+    group = {name: name for name, _ in shapes}
     for (one, first), (other, second) in itertools.combinations(shapes, 2):
         if min(len(first), len(second)) / max(len(first), len(second)) > 0.8:
             match = difflib.SequenceMatcher(None, first, second, False)
             if match.real_quick_ratio() > 0.9 and match.quick_ratio() > 0.9 and match.ratio() > 0.9:
-                found.append(f"{one} ~ {other}")
-    return found
+                old, new = group[other], group[one]
+                group = {name: new if it == old else it for name, it in group.items()}
+    groups = collections.defaultdict(list)
+    for name, it in group.items():
+        groups[it].append(name)
+    return [" ~ ".join(it) for it in groups.values() if len(it) > 1]
 
 
 def loops():
