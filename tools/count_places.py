@@ -21,7 +21,7 @@ KEYWORDS = set("as break const continue else enum fn for if impl in let loop mat
 def sources():
     """Returns each source file below crates/*/src with its text, comments blanked."""
     found = {}
-    for folder, folders, names in sorted(os.walk(os.path.join(TOP, "crates"))):
+    for folder, folders, names in os.walk(os.path.join(TOP, "crates")):
         folders[:] = sorted(it for it in folders if it != "out")
         for name in sorted(names):
             if name.endswith(".rt"):
