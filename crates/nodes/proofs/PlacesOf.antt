@@ -32,10 +32,6 @@ pub places-within : {X : Type 0} (test : X → Bool) (i : ℕ) (xs : List X) →
 places-within test i [] = tt
 places-within test i (x ∷ xs) = places-all (λ k. (i ≤ k) × (k < i + length (x ∷ xs))) test i (x ∷ xs) x (λ j l e. (omega arith, omega arith))
 
--- What stands at a place passes the test.
-pub places-pass : {X : Type 0} (test : X → Bool) (i : ℕ) (xs : List X) (d : X) → AllByRecursion (λ k. test (get_or xs (k - i) d) ≡ true) (places test i xs)
-places-pass test i xs d = places-all (λ k. test (get_or xs (k - i) d) ≡ true) test i xs d (λ j l e. let q : (i + j) - i ≡ j = omega arith in rw q e)
-
 -- No place is there where no element passes the test.
 pub places-none : {X : Type 0} (test : X → Bool) (i : ℕ) (xs : List X) (d : X) → ((j : ℕ) → j < length xs → test (get_or xs j d) ≡ true → ⊥) → places test i xs ≡ []
 places-none test i xs d h = go (places test i xs) (places-all (λ k. ⊥) test i xs d h)

@@ -2,7 +2,7 @@
 use Rattle.std.proofs.Common.{◌≡◌, ℕ, zero, suc, ◌+◌, ◌-◌, false, cond, eqb, List, [], ◌∷◌, ◌++◌, length, Option, sym, refl, ap, ◌∙◌, subst, subst₂, inr, add-zero, arith}
 use Rattle.std.proofs.lemmas.Bool.{ne_eqb}
 use Rattle.std.specs.declared.option.Option.TheVariants as options
-use Rattle.document.specs.Nodes.{Path, root, ◌▹◌, elem, key, value, field}
+use Rattle.document.specs.Nodes.{Path, ◌▹◌, elem, key, value, field}
 use Rattle.document.specs.Places.{Place, items, keys, vals, fields, lone, only, closing, Next, nowhere, there, next, full, settle}
 use Rattle.nodes.specs.declared.places.State.{State}
 use Rattle.nodes.specs.declared.places.State.TheVariants as states
@@ -107,10 +107,6 @@ leads ns s (lone p zero) (r, e, h) = rw e tt
 leads ns s (lone p (suc m)) (r, e, h) = rw e (leads_on ns m r (states.Lone r) (there p (lone p m)) (h, (r, refl, h)))
 leads ns s (only p) (r, e, h) = rw e (h, refl)
 leads ns s closing e = rw e tt
-
--- .. and the root's, which is the first node
-pub leads_root : (ns : List Path) → Leads (root ∷ ns) (ahead states.Root) (next (only root))
-leads_root ns = ((omega arith, omega arith, refl), refl)
 
 -- a state is full when its place is
 pub full_is : (ns : List Path) (s : State) (f : Place) → Placed ns s f → is_full s ≡ full f

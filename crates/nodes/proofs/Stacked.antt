@@ -1,5 +1,5 @@
 -- The open places as a list, and what a write or a place more or less does to it.
-use Rattle.std.proofs.Common.{◌≡◌, ℕ, zero, suc, ◌+◌, ◌-◌, ◌<◌, ◌≤◌, ◌≢◌, true, List, [], ◌∷◌, length, get_or, set, Option, unwrap_or, sym, refl, ap, ◌∙◌, add-one, arith, get_or-set_other, get_or-set_same}
+use Rattle.std.proofs.Common.{◌≡◌, ℕ, zero, suc, ◌+◌, ◌-◌, ◌<◌, ◌≤◌, ◌≢◌, true, List, [], ◌∷◌, length, get_or, set, Option, sym, refl, ap, ◌∙◌, add-one, arith, get_or-set_other, get_or-set_same}
 use Rattle.std.proofs.lemmas.Bool.{lt-ltb}
 use lib.Seq.{set-get_or}
 use Rattle.std.specs.declared.option.Option.TheVariants as options
@@ -8,11 +8,6 @@ use Rattle.nodes.specs.declared.places.State.{State}
 use Rattle.nodes.specs.declared.places.State.TheVariants.{Root, Items, Keys, Vals, Fields, Lone, One, Closing}
 use Rattle.nodes.specs.declared.places.Places.{Places}
 use Rattle.nodes.specs.Stack.{waiting, levels, stack, top, turned, settled, opening, has_room, rest, replaced}
-
--- the root's place gives way to the one that its value opens: as std has it
-pub replaced-or : (o : Option State) → unwrap_or o Closing ≡ replaced o
-replaced-or options.None = refl
-replaced-or (options.Some s) = refl
 
 -- the place that the document's value opens is the only one then
 pub replaced-settled : (o : Option State) → settled (replaced o ∷ []) ≡ settled (opening o [])
@@ -57,14 +52,6 @@ stays (Fields r n) ss ne = refl
 stays (Lone r n) ss ne = refl
 stays (One r) ss ne = refl
 stays Closing ss ne = absurd (ne refl)
-
--- a place that closes is gone once the places are settled
-pub settled-more : (ps : List Place) (d : ℕ) → 0 < d → (get_or ps (d - 1) (waiting Root)).state ≡ Closing → settled (levels ps d) ≡ settled (levels ps (d - 1))
-settled-more ps d h e = ap settled (levels_top ps d h) ∙ ap (λ s. settled (s ∷ levels ps (d - 1))) e
-
--- settled places: the innermost does not close
-pub settled-done : (ps : List Place) (d : ℕ) → 0 < d → (get_or ps (d - 1) (waiting Root)).state ≢ Closing → settled (levels ps d) ≡ levels ps d
-settled-done ps d h ne = ap settled (levels_top ps d h) ∙ stays (get_or ps (d - 1) (waiting Root)).state (levels ps (d - 1)) ne ∙ sym (levels_top ps d h)
 
 -- there is room for what is opened where all that is open then is at most 32
 pub room-to-open : (o : Option State) (d : ℕ) → length (opening o []) + d ≤ 32 → has_room o d ≡ true

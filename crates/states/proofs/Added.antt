@@ -89,11 +89,6 @@ module _ {X : Type 0} (f : X → List Call) (c : Call) (xs : List X) where
   one-more : (i : ℕ) (x : X) → i < length xs → first i ++ f (get_or xs i x) ≡ first (i + 1)
   one-more i x within = flat_map_more f (c ∷ []) (take i xs) (get_or xs i x) ∙ ap (λ (ys : List X). c ∷ flat_map f ys) (sym (take_more xs i x within))
 
-  -- a list's next element is taken
-  pub element-told : {a b : Writer} (d : Writer) (i : ℕ) (x : X) → x ≡ get_or xs i x → i < length xs → Adds a b (first i) → Adds b d (f x) → Adds a d (first (i + 1))
-  element-told {a = a} {b = b} d i x is within before next =
-      subst (Adds a d) (one-more i x within) (more-told d (f (get_or xs i x)) (Ok tt) before (subst (λ (y : X). Adds b d (f y)) is next))
-
   -- a list's next element is refused
   pub element-ended : {a b : Writer} (d : Writer) (i : ℕ) (x : X) (e : Refusal) (r : Result (Unit {0}) Refusal) → IsErrAnd r (λ y. y ≡ e) → x ≡ get_or xs i x → i < length xs → Adds a b (first i) → Stops b d (f x) e
       → Tells a d (c ∷ flat_map f xs ++ end ∷ []) r

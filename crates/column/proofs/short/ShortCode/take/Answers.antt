@@ -1,37 +1,8 @@
-use Rattle.std.proofs.Common.{◌≡◌, ◌≤◌, get_or, Err, ap, ◌∙◌, arith, length-take, pow_pos}
+use Rattle.std.proofs.Common.{Err, ap, ◌∙◌, arith, pow_pos}
 use Rattle.column.specs.Widths.{listed}
 use Rattle.column.proofs.Choice.{chose}
-use Rattle.column.proofs.Leb128.{front-got, form-fits, form-large, one-bad, one-got}
+use Rattle.column.proofs.Leb128.{front-got, one-bad, one-got}
 use Rattle.column.proofs.short.ShortCode.take.Goals as goal
-use Rattle.column.proofs.short.ShortCode.take.Goals.{else-size-eq-LONGEST-via-then-size-eq-LONGEST+else-bytes-gt-TENTH, else-size-eq-LONGEST-via-else-size-eq-LONGEST}
-
-pub bounds-bytes-9 : goal.bounds-bytes-9
-bounds-bytes-9 c =
-    let got = front-got c.args.layer c.args.bytes.now c.in_ok-size.size c.in_ok-size.ensures in
-    omega (arith, got.1.3)
-
-pub returns-then-bytes-gt-TENTH : goal.returns-then-bytes-gt-TENTH
-returns-then-bytes-gt-TENTH c =
-    let bs = c.args.bytes.now in
-    let got = front-got c.args.layer bs c.in_ok-size.size c.in_ok-size.ensures in
-    let large = form-large c.args.width bs c.in_ok-size.size c.requires got.1 c.if-size-eq-LONGEST.true c.if-bytes-gt-TENTH.true in
-    ap Err c.at.ensures ∙ one-bad c.args.layer c.args.width bs c.in_ok-size.size got.0 large
-
-pub slice_bounds-number_of-end : goal.slice_bounds-number_of-end
-slice_bounds-number_of-end c =
-    let got = front-got c.args.layer c.args.bytes.now c.in_ok-size.size c.in_ok-size.ensures in
-    omega (arith, got.1.3, length-take c.in_ok-size.size c.args.bytes.now)
-
-pub number_of-value-requires : goal.number_of-value-requires
-number_of-value-requires c =
-    let bs = c.args.bytes.now in
-    let got = front-got c.args.layer bs c.in_ok-size.size c.in_ok-size.ensures in
-    let small : c.in_ok-size.size ≡ 10 → get_or bs 9 0 ≤ 1 =
-    elim c.else-size-eq-LONGEST.branch [
-      | else-size-eq-LONGEST-via-then-size-eq-LONGEST+else-bytes-gt-TENTH w ↦ λ _. w.if-bytes-gt-TENTH.false
-      | else-size-eq-LONGEST-via-else-size-eq-LONGEST w ↦ λ e. absurd (w.if-size-eq-LONGEST.false e)
-    ] in
-    form-fits bs c.in_ok-size.size got.1 small
 
 pub returns-then-value-top : goal.returns-then-value-top
 returns-then-value-top c =
