@@ -11,7 +11,6 @@ pub mod Begun
 pub mod Keeping
 pub mod Viewing
 pub mod Kin
-pub mod Looking
 pub mod Taking
 pub mod FirstTaking
 pub mod Answering

@@ -1,5 +1,5 @@
 -- Asking for one accepted call after another.
-use Rattle.std.proofs.Common.{◌≡◌, ℕ, suc, ◌+◌, ◌<◌, ◌≤◌, Bool, true, false, List, [], ◌∷◌, length, get_or, drop, Ok, Err, Result, sym, refl, ap, ◌∙◌, subst, inl, inr, ◌⊎◌, zero-add, add-one, arith, drop-cons}
+use Rattle.std.proofs.Common.{◌≡◌, ℕ, suc, ◌+◌, ◌<◌, ◌≤◌, Bool, true, false, List, [], ◌∷◌, length, get_or, drop, Ok, Err, Result, sym, refl, ap, ◌∙◌, subst, inl, inr, ◌⊎◌, add-one, arith, drop-cons}
 use Rattle.std.proofs.Math.ListN.{drop_of_length-le}
 use Rattle.std.proofs.lemmas.Bool.{cond-true, cond-false}
 use Rattle.column.specs.Meaning.{Meaning}
@@ -12,9 +12,8 @@ use Rattle.document.specs.Reader.{Reading, Reply, reply, refuse, answer}
 use Rattle.de.specs.declared.reader.Reader.{Reader}
 use Rattle.de.specs.Answered.{Answers, Within}
 use Rattle.de.specs.Standing.{Stands, finishing}
-use Rattle.de.specs.Moves.{sheets}
 use Rattle.de.specs.Readers.{StandsFor, Tells, KeepsLengths}
-use Rattle.de.proofs.Sizes.{lengths_same, lengths_trans}
+use Rattle.de.proofs.Sizes.{lengths_trans}
 use Rattle.replay.specs.declared.steps.Step.{Step}
 use Rattle.replay.specs.declared.trip.Mismatch.{Mismatch}
 use Rattle.replay.specs.declared.trip.Mismatch.TheVariants.{Other}
@@ -90,10 +89,6 @@ pub record Along (col : Meaning) (input : List ℕ) {C : Type 0} (old : Reader C
       → (R' : Reading) × StandsFor r R' × ((n : ℕ) (e : Result (Unit {0}) Mismatch) → Listens col input R' left n e → Listens col input R all (count + n) e)
 
 module _ (col : Meaning) (input : List ℕ) {C : Type 0} (old : Reader C) (all : List Asking) where
-  -- before the first
-  pub along-none : Along col input old all old 0 all
-  along-none = record { kind = refl; input_is = refl; lengths = lengths_same (sheets old.desk.tables) (sheets old.desk.tables) refl; went = λ R st. (R, st, λ n e h. subst (λ m. Listens col input R all m e) (sym (zero-add n)) h) }
-
   module _ (r after : Reader C) (count : ℕ) (s : Step) (left : List Asking) (a : Along col input old all r count (asking_of s ∷ left)) (res : Result (Unit {0}) Mismatch)
       (told : (R : Reading) → StandsFor r R → Matched input (said s.call) after res (answer col R.store R.places (asked s.no_size (said s.call)))) where
     -- the next question is refused, or answered by another value
