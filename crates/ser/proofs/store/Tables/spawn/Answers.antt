@@ -11,5 +11,5 @@ returns-clause-tables c =
     let ok = t.nodes.ok.0 in
     let within = c.requires.within in
     let e = child-lent (λ n. n.children) blank_node with_next (λ n chain. with_children chain n) t.nodes c.deref_mut.result.now c.add_child.new.table c.args.r t.used c.new_child.result _ c.add_child.result c.deref_mut.ensures.value c.add_child.auto.table c.new_child.ensures
-        (omega arith) c.requires.within.1 (omega arith) (omega (arith, c.requires.tail)) c.add_child.ensures.answer c.add_child.ensures.table in
+    (omega arith) c.requires.within.1 (omega arith) (omega (arith, c.requires.tail)) c.add_child.ensures.answer c.add_child.ensures.table in
     ap (λ ns. record T { nodes = ns; used = T.used + 1 }) e
