@@ -97,5 +97,5 @@ walk_turn next_of table before after k b (a, (e, p, q)) =
 
 -- and at the end none is left.
 pub walk_end : {R : Type 0} (next_of : R → ℕ) (table : List R) (before after : Walk R) → table_of before ≡ table
-    → (table_of after ≡ table_of before) × (course (map next_of (table_of before)) (place_of before) ≡ []) → course (map next_of table) (place_of before) ≡ []
-walk_end next_of table before after b (a, e) = ap (λ xs. course (map next_of xs) (place_of before)) (sym b) ∙ e
+    → (table_of after ≡ table_of before) × ((course (map next_of (table_of before)) (place_of before) ≡ []) × (place_of after ≡ place_of before)) → course (map next_of table) (place_of before) ≡ []
+walk_end next_of table before after b (a, (e, s)) = ap (λ xs. course (map next_of xs) (place_of before)) (sym b) ∙ e

@@ -11,11 +11,11 @@ module _ {R : Type 0} (next_of : R → ℕ) where
   -- one call of a walk
   abbrev pub walks : Walk R → Option ℕ → Walk R → Type 0
   walks s r t = (table_of t ≡ table_of s)
-      × MatchOption r (course (map next_of (table_of s)) (place_of s) ≡ []) (λ k. (course (map next_of (table_of s)) (place_of s) ≡ k ∷ course (map next_of (table_of t)) (place_of t)) × (0 < k) × (k < length (table_of s)))
+      × MatchOption r ((course (map next_of (table_of s)) (place_of s) ≡ []) × (place_of t ≡ place_of s)) (λ k. (course (map next_of (table_of s)) (place_of s) ≡ k ∷ course (map next_of (table_of t)) (place_of t)) × (0 < k) × (k < length (table_of s)))
 
   always : (ks : List ℕ) (s : Walk R) → course (map next_of (table_of s)) (place_of s) ≡ ks → AlwaysYields walks (λ k. k) s ks
   always [] s e = λ k t h. let a = sym e ∙ h.1.0 in cc
-  always (k ∷ ks) s e = (λ t h. let a = sym e ∙ h.1 in cc, λ x t h. let a = sym e ∙ h.1.0 in (cc, always ks t (cc)))
+  always (k ∷ ks) s e = (λ t h. let a = sym e ∙ h.1.0 in cc, λ x t h. let a = sym e ∙ h.1.0 in (cc, always ks t (cc)))
 
   -- a walk gives the records of its course
   pub YieldsList-from_walk : {s : Walk R} (table : List R) (first : ℕ) → table_of s ≡ table → place_of s ≡ first → YieldsList walks (λ k. k) s (course (map next_of table) first)

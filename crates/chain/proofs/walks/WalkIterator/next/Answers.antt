@@ -17,7 +17,7 @@ returns-then-at-eq0 g c =
       | then-at-eq0-via-else-at-eq0+then-at-self w ↦
           let l : length s.table.now ≤ s.at = omega (arith, w.if-at-self.true) in course-outside ns s.at (simp length-map l)
     ] in
-    record { steps = (refl {a = s.table.now}, none); goes = firm (tt) (λ h. search rules) }
+    record { steps = (refl {a = s.table.now}, (none, refl {a = s.at})); goes = firm (tt) (λ h. search rules) }
 
 -- a record comes, and fewer are left
 pub returns : goal.returns
