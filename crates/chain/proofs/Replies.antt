@@ -1,5 +1,5 @@
 -- What an append's answer says.
-use Rattle.std.proofs.Common.{◌≡◌, ℕ, ◌<◌, Bool, true, false, cond, ◌&&◌, ltb, Ok, Err, Result, refl, arith}
+use Rattle.std.proofs.Common.{◌≡◌, ℕ, ◌<◌, Bool, true, false, cond, ◌&&◌, ltb, Ok, Err, Result, refl}
 use Rattle.std.proofs.lemmas.Bool.{lt-ltb, and_from}
 use Rattle.chain.specs.declared.Chain.{Chain}
 use Rattle.chain.specs.declared.Fault.{Fault}

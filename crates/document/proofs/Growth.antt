@@ -1,6 +1,6 @@
 -- How what the tables hold grows with each entry.
 use Rattle.std.proofs.Common.{◌≡◌, ℕ, zero, suc, ◌+◌, ◌<◌, ◌≤◌, Bool, true, false, cond, ◌≢◌, List, [], ◌∷◌, ◌++◌, length, get_or, sym, refl, ap, ◌∙◌, subst, append_assoc, append-nil, arith, length-append}
-use Rattle.document.specs.Calls.{Kind, Value, none, cell, str}
+use Rattle.document.specs.Calls.{Kind, Value, cell, str}
 use Rattle.document.specs.Nodes.{Path, root, ◌▹◌, Step, alt, same}
 use Rattle.document.specs.Entries.{Entry, at}
 use Rattle.document.specs.Bytes.{firsts}
