@@ -1,0 +1,4 @@
+pub mod Spoken
+pub mod Verdicts
+pub mod Replies
+pub mod Tallies
