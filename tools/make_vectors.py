@@ -12,7 +12,6 @@ repository. PROGRAM is the program `vectors`, built: `rt run` in crates/vectors 
 import collections
 import os
 import random
-import re
 import subprocess
 import sys
 import tempfile
@@ -287,22 +286,42 @@ def large(reference, generator, program, seed):
     print("total: %s" % ", ".join("%d %s" % (number, name) for name, number in sum_of_all.items()))
 
 
+# A word of an answer, and another one.
+OTHERS = {"whole": "left", "left": "whole", "error": "unfit", "unfit": "error", "changed": "error", "none": "some", "some": "none"}
+OTHERS.update({"bytes -": "bytes 00", "type changed": "error", "length mismatch": "error"})
+
+
+def other(text):
+    """Another value, or bytes: the last digit is changed."""
+    if text in OTHERS:
+        return OTHERS[text]
+    return text[:-1] + ("1" if text[-1] == "0" else "0")
+
+
+def changed(chance, line):
+    """The line with one value, one byte or the word of its answer changed."""
+    asked, answer = line.split(" = ")
+    word, _, said = answer.partition(" ")
+    if line.startswith("write "):
+        if answer in OTHERS or answer == "error":
+            return "%s = %s" % (asked, "bytes -" if answer == "error" else OTHERS[answer])
+        place = 2 * chance.randrange(1, len(said) // 2 + 1)
+        return "%s = bytes %s%s" % (asked, other(said[:place]), said[place:])
+    values = said.split(";")
+    places = [i for i, value in enumerate(values) if value not in ("-", "")]
+    if not places:
+        return "%s = %s%s" % (asked, OTHERS[word], " " + said if said else "")
+    i = chance.choice(places)
+    return "%s = %s %s" % (asked, word, ";".join(values[:i] + [other(values[i])] + values[i + 1 :]))
+
+
 def altered(program):
-    """Changes one digit in the answer of each line of the gate's data in turn, and counts the lines that the program finds."""
+    """Changes each line of the gate's data, one value, byte or word of its answer, and counts what the program finds."""
     with open(DATA) as data:
         lines = [line.rstrip("\n") for line in data if line.startswith(("write ", "read "))]
     chance = random.Random(1)
-    changed = []
-    for line in lines:
-        asked, answer = line.split(" = ")
-        places = [m.start() for m in re.finditer("[0-9]", answer)]
-        if not places:
-            continue
-        place = chance.choice(places)
-        digit = "1" if answer[place] == "0" else "0"
-        changed.append("%s = %s" % (asked, answer[:place] + digit + answer[place + 1 :]))
-    counts, _ = compared(program, changed)
-    print("%d lines with one digit changed: %s" % (len(changed), ", ".join("%d %s" % (number, name) for name, number in counts.items())))
+    counts, _ = compared(program, [changed(chance, line) for line in lines])
+    print(", ".join("%d %s" % (number, name) for name, number in counts.items()))
 
 
 if __name__ == "__main__":

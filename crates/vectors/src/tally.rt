@@ -38,33 +38,8 @@ impl Tally {
         ensures unlisted { OnOk result (self.new.unlisted ≡ self.old.unlisted + one_unlisted verdict) }
         ensures names { OnOk result (self.new.names ≡ names_after self.old.names verdict) }
     {
-        let Tally {
-            compared,
-            same,
-            unlisted,
-            names,
-        } = *self;
-        let compared = compared.checked_add(1).context("too many lines")?;
-        *self = match verdict {
-            Verdict::Same => Tally {
-                compared,
-                same: same + 1,
-                unlisted,
-                names,
-            },
-            Verdict::Unlisted => Tally {
-                compared,
-                same,
-                unlisted: unlisted + 1,
-                names,
-            },
-            Verdict::Listed(known) => Tally {
-                compared,
-                same,
-                unlisted,
-                names: named(names, known),
-            },
-        };
+        let compared = self.compared.checked_add(1).context("too many lines")?;
+        *self = counted(*self, compared, verdict);
         Ok(())
     }
 
@@ -98,10 +73,47 @@ impl Tally {
     }
 }
 
+/// A tally with one line more, where so many are compared then.
+fn counted(tally: Tally, compared: u64, verdict: Verdict) -> Tally
+    requires { compared ≡ tally.compared + 1 }
+    ensures compared { result.compared ≡ compared }
+    ensures same { result.same ≡ tally.same + one_same verdict }
+    ensures unlisted { result.unlisted ≡ tally.unlisted + one_unlisted verdict }
+    ensures names { result.names ≡ names_after tally.names verdict }
+{
+    let Tally {
+        same,
+        unlisted,
+        names,
+        ..
+    } = tally;
+    match verdict {
+        Verdict::Same => Tally {
+            compared,
+            same: same + 1,
+            unlisted,
+            names,
+        },
+        Verdict::Unlisted => Tally {
+            compared,
+            same,
+            unlisted: unlisted + 1,
+            names,
+        },
+        Verdict::Listed(known) => Tally {
+            compared,
+            same,
+            unlisted,
+            names: named(names, known),
+        },
+    }
+}
+
 /// One more difference of this name.
 fn named(names: Names, known: Known) -> Names
     requires { all_named names < 2 ^ 64 - 1 }
-    ensures { result ≡ one_more names known }
+    ensures one { result ≡ one_more names known }
+    ensures all { all_named result ≡ all_named names + 1 }
 {
     match known {
         Known::UnitBeside => Names {

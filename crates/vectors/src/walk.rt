@@ -32,9 +32,8 @@ pub(crate) fn open_places(alloc: Global, calls: &[Told]) -> Result<usize, AllocE
 
 /// Closes the innermost places that close with their value, which is whole.
 fn close_whole(open: &mut Vec<Place>) {
-    while matches!(open.last(), Some(Place::Closing)) {
-        open.pop();
-    }
+    let last = open.iter().rposition(|place| matches!(place, Place::Ended));
+    open.truncate(last.map_or(0, |last| last.saturating_add(1)));
 }
 
 /// All lengths that a list of calls tells, added up.
