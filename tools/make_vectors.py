@@ -278,11 +278,11 @@ def large(reference, generator, program, seed):
                         continue
                     kinds(pair, counts)
                 more, found = compared(program, converts)
-                counts += more
+                counts.update(more)
                 for line in found:
                     print(line[:2000])
         print("%s: %s" % (kind, ", ".join("%d %s" % (number, name) for name, number in counts.items())), flush=True)
-        sum_of_all += counts
+        sum_of_all.update(counts)
     print("total: %s" % ", ".join("%d %s" % (number, name) for name, number in sum_of_all.items()))
 
 

@@ -2,3 +2,4 @@ pub mod Spoken
 pub mod Verdicts
 pub mod Replies
 pub mod Tallies
+pub mod Walks

@@ -26,11 +26,17 @@ AgreesInWriting (written.Bytes bytes) (wrote.Bytes came) = vec_items bytes ≡ v
 AgreesInWriting written.Error (wrote.Refused refused) = refused.refusal ≡ refusals.Index
 AgreesInWriting _ _ = ⊥
 
--- the reference wrote the list out, or refused nothing up to here but a later call
-abbrev pub WentOn : Written → Type 0
-WentOn (written.Bytes bytes) = Unit {0}
-WentOn written.TypeChanged = Unit {0}
-WentOn _ = ⊥
+-- the reference wrote the list out, or panicked because a later call was of another kind
+abbrev pub PassedEnds : Written → Type 0
+PassedEnds (written.Bytes bytes) = Unit {0}
+PassedEnds written.TypeChanged = Unit {0}
+PassedEnds _ = ⊥
+
+-- the reference wrote the list out, or panicked because a declared number was another
+abbrev pub PassedKinds : Written → Type 0
+PassedKinds (written.Bytes bytes) = Unit {0}
+PassedKinds written.LengthMismatch = Unit {0}
+PassedKinds _ = ⊥
 
 -- the reference wrote the list out
 abbrev pub WroteOut : Written → Type 0
@@ -43,9 +49,9 @@ IsFull r = ((r.refusal ≡ refusals.Nodes) × (65536 ≤ r.grounds.records)) ⊎
 
 -- what a refused call has to be, to count under a name
 abbrev pub CountsRefused : Known → Written → RefusedCall → Type 0
-CountsRefused known.UnitBeside w r = WroteOut w × (r.refusal ≡ refusals.Kind) × (r.grounds.beside ≡ Some besides.Unit)
-CountsRefused known.NoneBeside w r = WroteOut w × (r.refusal ≡ refusals.Kind) × (r.grounds.beside ≡ Some besides.None)
-CountsRefused known.EarlyEnd w r = WentOn w × (r.refusal ≡ refusals.Count) × (r.grounds.is_end ≡ true)
+CountsRefused known.UnitBeside w r = PassedKinds w × (r.refusal ≡ refusals.Kind) × (r.grounds.beside ≡ Some besides.Unit)
+CountsRefused known.NoneBeside w r = PassedKinds w × (r.refusal ≡ refusals.Kind) × (r.grounds.beside ≡ Some besides.None)
+CountsRefused known.EarlyEnd w r = PassedEnds w × (r.refusal ≡ refusals.Count) × (r.grounds.is_end ≡ true)
 CountsRefused known.TooMany w r = (w ≡ written.LengthMismatch) × (r.refusal ≡ refusals.Count) × (r.grounds.is_end ≡ false)
 CountsRefused known.OtherKind w r = (w ≡ written.TypeChanged) × (r.refusal ≡ refusals.Kind)
 CountsRefused known.Sums w r = WroteOut w × (r.refusal ≡ refusals.Sum) × (2251799813685247 ≤ r.grounds.lengths)

@@ -53,7 +53,7 @@ fn known_in_writing(reference: &Written, refused: RefusedCall) -> Option<Known>
 {
     let grounds = refused.grounds;
     match (reference, refused.refusal) {
-        (Written::Bytes(_), Refusal::Kind) => match grounds.beside {
+        (Written::Bytes(_) | Written::LengthMismatch, Refusal::Kind) => match grounds.beside {
             Some(Beside::Unit) => Some(Known::UnitBeside),
             Some(Beside::None) => Some(Known::NoneBeside),
             None => None,

@@ -1,5 +1,8 @@
 //! What lists of calls and questions come to: open places, lengths and node records.
 
+ghost use Rattle.std.specs.Prelude.{◌≡◌};
+ghost use Rattle.vectors.specs.Walks.{length_told, cells_taken, most_records};
+
 use crate::calls::Told;
 use document::calls::Call;
 use document::limits::LONG;
@@ -46,7 +49,9 @@ pub(crate) fn lengths(calls: &[Told]) -> u64 {
 }
 
 /// The length that a call tells.
-fn length(call: Call<'_>) -> u64 {
+fn length(call: Call<'_>) -> u64
+    ensures { result ≡ length_told call.entry }
+{
     match call {
         Call::Seq(n) | Call::Map(n) => n,
         Call::Text(text) => text.len() as u64,
@@ -64,7 +69,9 @@ pub(crate) fn cells(calls: &[Told]) -> u64 {
 }
 
 /// The cells that a call takes: one for a number, an index or a length, and two for a length of 255 or more.
-fn cells_of(call: Call<'_>) -> u64 {
+fn cells_of(call: Call<'_>) -> u64
+    ensures { result ≡ cells_taken call.entry }
+{
     match call {
         Call::Unit | Call::Tuple(_) | Call::End => 0,
         _ if length(call) >= LONG => 2,
@@ -102,7 +109,9 @@ pub(crate) fn records_of_questions(questions: &[Question]) -> u64 {
 }
 
 /// The most node records that a question, or its call, can take.
-fn records(question: Question) -> u64 {
+fn records(question: Question) -> u64
+    ensures { result ≡ most_records question }
+{
     match question {
         Question::Seq { .. } | Question::Option | Question::Variant => 1,
         Question::Map { .. } => 2,
