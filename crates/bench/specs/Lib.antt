@@ -1,0 +1,5 @@
+pub mod Chances
+pub mod Fnv
+pub mod Tallies
+pub mod Hearing
+pub mod Writing
