@@ -1,11 +1,10 @@
 -- One question after another.
-use Rattle.std.proofs.Common.{◌≡◌, ℕ, suc, ◌+◌, ◌%◌, ◌^◌, ◌<◌, ◌≤◌, List, [], ◌∷◌, length, get_or, drop, Ok, Err, Result, sym, refl, ap, ◌∙◌, subst, add-one, arith, drop-cons}
+use Rattle.std.proofs.Common.{◌≡◌, ℕ, ◌+◌, ◌%◌, ◌^◌, ◌<◌, ◌≤◌, List, [], ◌∷◌, length, get_or, drop, Ok, Err, Result, sym, refl, ap, ◌∙◌, subst, add-one, drop-cons}
 use Rattle.std.proofs.Math.ListN.{drop_of_length-le}
 use Rattle.column.specs.Meaning.{Meaning}
 use Rattle.document.specs.declared.refusals.Refusal.{Refusal}
 use Rattle.document.specs.declared.scalars.Scalar.TheVariants as scalars
 use Rattle.document.specs.declared.questions.Answer.{Answer}
-use Rattle.document.specs.declared.questions.Answer.TheVariants as answers
 use Rattle.document.specs.declared.questions.Question.{Question}
 use Rattle.document.specs.declared.questions.Question.TheVariants as questions
 use Rattle.document.specs.Reader.{Reading, Reply, reply, refuse, answer}
@@ -18,7 +17,7 @@ use Rattle.de.specs.Readers.{StandsFor, Tells, KeepsLengths}
 use Rattle.de.proofs.Sizes.{lengths_same, lengths_trans}
 use Rattle.bench.specs.declared.tally.Tally.{Tally}
 use Rattle.bench.specs.Tallies.{amount}
-use Rattle.bench.specs.Hearing.{count_of, Counts, AskedOnce}
+use Rattle.bench.specs.Hearing.{Counts, AskedOnce}
 use Rattle.bench.proofs.Counting.{counts-as, counts-also, counts-end, counts-refused}
 
 -- a question, where there is none

@@ -1,5 +1,5 @@
 -- An answer counts what the call that is heard of it does.
-use Rattle.std.proofs.Common.{◌≡◌, ℕ, ◌+◌, ◌-◌, ◌%◌, ◌^◌, ◌≤◌, ◌<◌, List, [], ◌∷◌, length, take, drop, Ok, Err, Result, sym, refl, ap, ◌∙◌, subst, arith}
+use Rattle.std.proofs.Common.{◌≡◌, ℕ, ◌+◌, ◌%◌, ◌^◌, ◌≤◌, List, [], ◌∷◌, length, take, drop, Ok, Err, Result, sym, refl, ap, ◌∙◌, arith}
 use Rattle.std.proofs.lemmas.List.{length-take-le, length-drop}
 use Rattle.document.specs.declared.refusals.Refusal.{Refusal}
 use Rattle.document.specs.declared.refusals.Refusal.TheVariants as refusals
@@ -14,7 +14,7 @@ use Rattle.de.specs.Answered.{Answers, Within}
 use Rattle.de.specs.Standing.{ended}
 use Rattle.bench.specs.declared.tally.Tally.{Tally}
 use Rattle.bench.specs.Tallies.{amount}
-use Rattle.bench.specs.Hearing.{count_of, counted, Counts}
+use Rattle.bench.specs.Hearing.{count_of, Counts}
 
 -- a number
 number-counts : (a : Answer) (k : Scalar) (b : ℕ) → Is a k b → amount a ≡ b

@@ -1,5 +1,5 @@
 -- A document that was written.
-use Rattle.std.specs.Prelude.{◌≡◌, ℕ, List, length, take, Ok, Result}
+use Rattle.std.specs.Prelude.{◌≡◌, ℕ, List, take, Ok, Result}
 use Rattle.column.specs.Meaning.{Meaning}
 use Rattle.document.specs.declared.refusals.Refusal.{Refusal}
 use Rattle.document.specs.Calls.{Call}

@@ -1,7 +1,6 @@
-use Rattle.std.proofs.Common.{drop, get_or, ◌+◌, sym, subst, ap, ◌∙◌, rules}
-use Rattle.document.specs.Reader.{answer}
+use Rattle.std.proofs.Common.{drop, get_or, ◌+◌, subst, rules}
 use Rattle.document.specs.Replay.{replay, finish}
-use Rattle.bench.specs.Hearing.{Counts, AskedOnce}
+use Rattle.bench.specs.Hearing.{Counts}
 use Rattle.bench.proofs.Asking.{Along, no_question, questions-here, questions-end, asked-as, along-stopped, along-more, along-end, along-refused}
 use Rattle.bench.proofs.listening.ask_all.Goals as goal
 

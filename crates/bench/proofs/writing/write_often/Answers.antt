@@ -1,4 +1,4 @@
-use Rattle.std.proofs.Common.{◌≡◌, [], length, ap, ◌∙◌, rules}
+use Rattle.std.proofs.Common.{[], length, ap, ◌∙◌, rules}
 use Rattle.replay.specs.Given.{calls_of, kept, sizes_for}
 use Rattle.bench.proofs.Rewriting.{same-calls, wrote, wrote-as}
 use Rattle.bench.proofs.writing.write_often.Goals as goal
