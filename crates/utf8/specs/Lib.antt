@@ -2,3 +2,4 @@ pub mod Table
 pub mod Passes
 pub mod Scalars
 pub mod Examples
+pub mod Ascii

@@ -7,8 +7,11 @@ ghost use Rattle.utf8.specs.Scalars.{Encodes};
 ghost use Rattle.utf8.specs.Passes.{passes};
 ghost use Rattle.utf8.specs.Examples.{examples};
 
+use crate::ascii::past_ascii;
 use std::error::Error;
 use std::fmt;
+
+mod ascii;
 
 /// Why bytes are refused.
 #[derive(Clone, Copy, PartialEq, Eq, Debug)]
@@ -48,7 +51,7 @@ pub fn well_formed(text: &[u8]) -> Result<(), Fault>
     loop {
         s = match s {
             [] => return Ok(()),
-            [a, rest @ ..] if within(0x00, *a, 0x7f) => rest,
+            [a, rest @ ..] if within(0x00, *a, 0x7f) => past_ascii(rest),
             [a, b, rest @ ..] if within(0xc2, *a, 0xdf) & within(0x80, *b, 0xbf) => rest,
             [a, b, c, rest @ ..]
                 if within(0xe0, *a, 0xe0) & within(0xa0, *b, 0xbf) & within(0x80, *c, 0xbf) => rest,

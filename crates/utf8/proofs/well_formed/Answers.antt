@@ -1,11 +1,15 @@
 -- Each arm is a row of the table, by its place there from 0.
 use Rattle.std.proofs.Common.{lit<, rules}
 use Rattle.utf8.proofs.Guards.{taken}
+use Rattle.utf8.proofs.Beginnings.{past-alike}
 use Rattle.utf8.proofs.Verdicts.{accepted, refused}
 use Rattle.utf8.proofs.well_formed.Goals as goal
 
 pub loop-s-preserved-in-len1-up : goal.loop-s-preserved-in-len1-up
-loop-s-preserved-in-len1-up c = taken 0 c.loop-s.invariant (lit< tt) (search rules) (search rules)
+loop-s-preserved-in-len1-up c =
+    let rest = taken 0 c.loop-s.invariant (lit< tt) (search rules) (search rules) in
+    let past = past-alike _ _ c.past_ascii-s.ensures in
+    (λ w. rest.0 (past.0 w), λ w. past.1 (rest.1 w))
 
 pub loop-s-preserved-in-len2-up : goal.loop-s-preserved-in-len2-up
 loop-s-preserved-in-len2-up c = taken 1 c.loop-s.invariant (lit< tt) (search rules) (search rules)
