@@ -1,5 +1,8 @@
 //! A plan is carried out.
 
+ghost use Rattle.std.specs.Prelude.{◌≡◌, map as each, IfOk};
+ghost use Rattle.document.specs.Said.{said, asked};
+
 use crate::listening::{Listened, listen_often};
 use crate::plan::{Phase, Plan};
 use crate::script::{letters_of, steps_of};
@@ -13,7 +16,9 @@ use replay::trip::round_trip;
 use std::alloc::{AllocError, Global};
 
 /// The question for each call.
-fn questions_of(heap: Global, steps: &[Step<'_>]) -> Result<Vec<Question>, AllocError> {
+fn questions_of(heap: Global, steps: &[Step<'_>]) -> Result<Vec<Question>, AllocError>
+    ensures { IfOk result (λ questions. questions.items ≡ each (λ step. asked step.no_size (said step.call)) steps.now) }
+{
     steps
         .iter()
         .map(|step| step.call.question(step.no_size))
