@@ -2,10 +2,11 @@
 """Makes the list of vectors that program `vectors` compares the codec with, and runs the large comparison.
 
     make_vectors.py gate REFERENCE GENERATOR                      writes crates/vectors/data/rust.txt
-    make_vectors.py large REFERENCE GENERATOR PROGRAM SEED        compares far more, and prints the counts
+    make_vectors.py large REFERENCE GENERATOR PROGRAM SEED [KIND] compares far more, and prints the counts
     make_vectors.py altered PROGRAM                               shows that the program finds lines that were changed
 
-REFERENCE answers lines and GENERATOR makes them; both are described in docs/COMPARISON.md, and are no part of this
+REFERENCE answers lines and GENERATOR makes them; KIND is one kind of lines in place of all (docs, deep, twist,
+unfinished, exhaustive, utf8, big). Both programs are described in docs/COMPARISON.md, and are no part of this
 repository. PROGRAM is the program `vectors`, built: `rt run` in crates/vectors leaves it in out/.
 """
 
@@ -252,11 +253,11 @@ def kinds(pair, counts):
         counts["inputs, " + {"values": "answered to the end", "err": "an Err", "diverged": "questions that do not fit", "panic": "a panic"}[word]] += 1
 
 
-def large(reference, generator, program, seed):
+def large(reference, generator, program, seed, only):
     sum_of_all = collections.Counter()
     tasks = [(kind, count, seed * 1000 + number) for kind, count, times in LARGE for number in range(times)]
     tasks += [("exhaustive", 2, None), ("utf8", 4, None), ("big", 0, None)]
-    for kind in [kind for kind, _, _ in LARGE] + ["exhaustive", "utf8", "big"]:
+    for kind in only or [kind for kind, _, _ in LARGE] + ["exhaustive", "utf8", "big"]:
         counts = collections.Counter()
         for _, count, part in [task for task in tasks if task[0] == kind]:
             chance = random.Random(part)
@@ -327,8 +328,8 @@ def altered(program):
 if __name__ == "__main__":
     if len(sys.argv) == 4 and sys.argv[1] == "gate":
         gate(sys.argv[2], sys.argv[3])
-    elif len(sys.argv) == 6 and sys.argv[1] == "large":
-        large(sys.argv[2], sys.argv[3], sys.argv[4], int(sys.argv[5]))
+    elif len(sys.argv) in (6, 7) and sys.argv[1] == "large":
+        large(sys.argv[2], sys.argv[3], sys.argv[4], int(sys.argv[5]), sys.argv[6:])
     elif len(sys.argv) == 3 and sys.argv[1] == "altered":
         altered(sys.argv[2])
     else:
