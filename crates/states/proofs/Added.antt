@@ -6,12 +6,11 @@ use Rattle.std.specs.List.{flat_map}
 use Rattle.column.proofs.Choice.{passed_on}
 use Rattle.document.specs.declared.refusals.Refusal.{Refusal}
 use Rattle.document.specs.Calls.{Call, end}
-use Rattle.document.specs.Verdict.{verdict}
+use Rattle.document.specs.Verdict.{Sizes, verdict}
 use Rattle.ser.specs.declared.writer.Writer.{Writer}
-use Rattle.ser.specs.Moves.{sheets}
-use Rattle.ser.specs.Tables.{sizes_of}
 use Rattle.ser.specs.Standing.{Stands, Told}
-use Rattle.states.specs.Adding.{Adds, Stops, Tells, TellsAll}
+use Rattle.replay.specs.Given.{sizes_at}
+use Rattle.states.specs.Adding.{Adds, Stopped, Stops, Tells, TellsAll}
 
 -- what a writer tells of a call, whatever it stood for
 abbrev pub Answers : Writer → Writer → Call → Result (Unit {0}) Refusal → Type 0
@@ -19,7 +18,7 @@ Answers old new c r = (cs : List Call) → Stands old.desk cs → Told old.desk 
 
 -- a call is taken or refused
 pub call-told : (a b : Writer) (c : Call) (r : Result (Unit {0}) Refusal) → Answers a b c r → Tells a b (c ∷ []) r
-call-told a b c (Ok done) told = record { stands = λ cs stands. (told cs stands).taken refl }
+call-told a b c (Ok done) told = record { stands = λ cs stands. (told cs stands).taken refl; sizes = λ cs stands. (told cs stands).sizes }
 call-told a b c (Err refusal) told =
     record {
       stopped =
@@ -32,15 +31,19 @@ call-told a b c (Err refusal) told =
             after = [];
             parts = refl;
             stands = rw (same, none) stands;
-            told = rw (same, none) ((told cs stands).told);
+            told = rw none ((told cs stands).told);
+            kept = (told cs stands).sizes;
           };
     }
 
 -- calls that were taken, and then calls that are told
 pub more-told : {a b : Writer} {xs : List Call} (d : Writer) (ys : List Call) (r : Result (Unit {0}) Refusal) → Adds a b xs → Tells b d ys r → Tells a d (xs ++ ys) r
-more-told {xs = xs} d ys (Ok done) first next =
-    record { stands = λ cs stands. subst (Stands d.desk) (append_assoc cs xs ys) (next.stands (cs ++ xs) (first.stands cs stands)) }
-more-told {xs = xs} d ys (Err refusal) first next =
+more-told {a = a} {xs = xs} d ys (Ok done) first next =
+    record {
+      stands = λ cs stands. subst (Stands d.desk) (append_assoc cs xs ys) (next.stands (cs ++ xs) (first.stands cs stands));
+      sizes = λ cs stands. next.sizes (cs ++ xs) (first.stands cs stands) ∙ first.sizes cs stands;
+    }
+more-told {a = a} {xs = xs} d ys (Err refusal) first next =
     record {
       stopped =
           λ cs stands.
@@ -51,7 +54,8 @@ more-told {xs = xs} d ys (Err refusal) first next =
             after = s.after;
             parts = ap (λ (zs : List Call). xs ++ zs) s.parts ∙ sym (append_assoc xs s.before (s.refused ∷ s.after));
             stands = subst (Stands d.desk) (append_assoc cs xs s.before) s.stands;
-            told = subst (λ (zs : List Call). Err refusal ≡ verdict (sizes_of (sheets d.desk.tables)) zs s.refused) (append_assoc cs xs s.before) s.told;
+            told = s.told ∙ ap (λ (z : Sizes). verdict z ((cs ++ xs) ++ s.before) s.refused) (first.sizes cs stands) ∙ ap (λ (zs : List Call). verdict (sizes_at a) zs s.refused) (append_assoc cs xs s.before);
+            kept = s.kept ∙ first.sizes cs stands;
           };
     }
 
@@ -69,6 +73,7 @@ rest-untold a b xs ys e first =
             parts = ap (λ (zs : List Call). zs ++ ys) s.parts ∙ append_assoc s.before (s.refused ∷ s.after) ys;
             stands = s.stands;
             told = s.told;
+            kept = s.kept;
           };
     }
 
@@ -107,6 +112,6 @@ module _ {X : Type 0} (f : X → List Call) (c : Call) (xs : List X) where
       subst (λ (ys : List X). Tells a d (c ∷ flat_map f ys ++ end ∷ []) r) (take_all i xs whole) (call-next d end r before told)
 
 -- what was told to a writer that stood for no call
-pub all-told : (a b : Writer) (xs : List Call) (r : Result (Unit {0}) Refusal) → Stands a.desk [] → Tells a b xs r → TellsAll b.desk xs r
-all-told a b xs (Ok done) stands told = told.stands [] stands
-all-told a b xs (Err refusal) stands told = told.stopped [] stands
+pub all-told : (sizes : Sizes) (a b : Writer) (xs : List Call) (r : Result (Unit {0}) Refusal) → Stands a.desk [] → sizes_at a ≡ sizes → Tells a b xs r → TellsAll sizes b.desk xs r
+all-told sizes a b xs (Ok done) stands same told = (told.stands [] stands, told.sizes [] stands ∙ same)
+all-told sizes a b xs (Err refusal) stands same told = subst (λ (z : Sizes). Stopped z b.desk [] xs refusal) same (told.stopped [] stands)

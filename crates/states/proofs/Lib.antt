@@ -2,3 +2,4 @@ pub mod Added
 pub mod Sent
 pub mod Asked
 pub mod Returned
+pub mod Sizes

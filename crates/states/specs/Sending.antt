@@ -2,6 +2,7 @@
 use Rattle.std.specs.Prelude.{◌≡◌, ℕ, ◌⊎◌, List, [], Err, Result}
 use Rattle.document.specs.declared.refusals.Refusal.{Refusal}
 use Rattle.document.specs.Calls.{Call}
+use Rattle.document.specs.Verdict.{Sizes}
 use Rattle.ser.specs.declared.desk.Desk.{Desk}
 use Rattle.states.specs.declared.message.MessageError.{MessageError}
 use Rattle.states.specs.declared.message.MessageError.TheVariants.{Memory, Refused}
@@ -12,7 +13,7 @@ abbrev pub Fails : Result ℕ Refusal → MessageError → Type 0
 Fails wrote Memory = Unit {0}
 Fails wrote (Refused r) = wrote ≡ Err r
 
--- .. or a writer refused one of the calls
-abbrev pub SendFails : Result ℕ Refusal → List Call → MessageError → Type 0
-SendFails wrote cs Memory = Unit {0}
-SendFails wrote cs (Refused r) = ((d : Desk) × Stopped d [] cs r) ⊎ (wrote ≡ Err r)
+-- .. or a writer over tables of these lengths refused one of the calls
+abbrev pub SendFails : Sizes → Result ℕ Refusal → List Call → MessageError → Type 0
+SendFails sizes wrote cs Memory = Unit {0}
+SendFails sizes wrote cs (Refused r) = ((d : Desk) × Stopped sizes d [] cs r) ⊎ (wrote ≡ Err r)

@@ -6,6 +6,7 @@ ghost use Rattle.document.specs.Bytes.{bytes};
 ghost use Rattle.document.specs.WriteOut.{write_out};
 ghost use Rattle.ser.specs.Standing.{Stands};
 ghost use Rattle.states.specs.declared.message.MessageError.TheVariants.{Memory, Refused};
+ghost use Rattle.replay.specs.Given.{sizes_for};
 ghost use Rattle.states.specs.Documents.{state_calls};
 ghost use Rattle.states.specs.Sending.{Fails, SendFails};
 
@@ -78,14 +79,15 @@ pub(crate) fn message<C: Column>(
     Ok(output)
 }
 
-/// The bytes of a state under a kind, or why there are none; and the tables again.
+/// The bytes of a state under a kind, or why there are none; and the tables again, as long as they were.
 pub(crate) fn send<C: Column>(
     heap: Global,
     tables: Parts,
     state: TableState<'_>,
     kind: &C,
 ) -> (Result<Vec<u8>, MessageError>, Parts)
-    ensures { MatchResult result.0 (λ message. message.items ≡ bytes (C.Column.meaning kind.now) (state_calls state.entry)) (SendFails (write_out (C.Column.meaning kind.now) (state_calls state.entry) CELLS ROOM) (state_calls state.entry)) }
+    ensures message { MatchResult result.0 (λ message. message.items ≡ bytes (C.Column.meaning kind.now) (state_calls state.entry)) (SendFails (sizes_for tables) (write_out (C.Column.meaning kind.now) (state_calls state.entry) CELLS ROOM) (state_calls state.entry)) }
+    ensures tables { sizes_for result.1 ≡ sizes_for tables }
 {
     let (closed, answer) = told(tables, state);
     let bytes = match answer {

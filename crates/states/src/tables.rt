@@ -2,6 +2,7 @@
 
 ghost use Rattle.std.specs.Prelude.{◌≡◌, [], IfOk, vec_len};
 ghost use Rattle.ser.specs.Standing.{Stands};
+ghost use Rattle.replay.specs.Given.{sizes_at, sizes_for};
 
 use de::reader::questions::Parts as ReaderParts;
 use de::records::Node as ReaderNode;
@@ -58,7 +59,8 @@ pub(crate) fn reader_tables(
 
 /// Tables for the first writer and the first reader of a state: the reader's are as large as the writer's, which suffices.
 pub(crate) fn for_states(heap: Global) -> Result<Tables, AllocError>
-    ensures { IfOk result (λ tables. (vec_len tables.writer.nodes ≡ NODES) × (vec_len tables.writer.cells ≡ CELLS) × (vec_len tables.writer.text ≡ LETTERS)) }
+    ensures writer { IfOk result (λ tables. (vec_len tables.writer.nodes ≡ NODES) × (vec_len tables.writer.cells ≡ CELLS) × (vec_len tables.writer.text ≡ LETTERS)) }
+    ensures reader { IfOk result (λ tables. (vec_len tables.reader.nodes ≡ NODES) × (vec_len tables.reader.slots ≡ CELLS)) }
 {
     Ok(Tables {
         writer: writer_tables(heap, NODES, CELLS, LETTERS)?,
@@ -76,7 +78,8 @@ pub(crate) fn for_numbers(heap: Global, count: usize) -> Result<Tables, AllocErr
 
 /// The next writer over the tables.
 pub(crate) fn begin(tables: Parts) -> Writer
-    ensures { Stands result.desk [] }
+    ensures stands { Stands result.desk [] }
+    ensures sizes { sizes_at result ≡ sizes_for tables }
 {
     let Parts { nodes, cells, text } = tables;
     Writer::new(nodes, cells, text)

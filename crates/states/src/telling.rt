@@ -5,6 +5,7 @@ ghost use Rattle.std.specs.List.{flat_map};
 ghost use Rattle.document.specs.Calls.{Call as Said, end};
 ghost use Rattle.document.specs.Said.{said};
 ghost use Rattle.states.specs.Documents.{number_calls, grant_calls, hand_calls, seat_calls, state_calls};
+ghost use Rattle.replay.specs.Given.{sizes_for};
 ghost use Rattle.states.specs.Adding.{Tells, TellsAll};
 
 use crate::state::{Grant, Seat, TableState};
@@ -100,7 +101,7 @@ pub(crate) fn call_each(writer: &mut Writer, calls: &[Call<'_>]) -> Result<(), R
 
 /// A closed writer over the tables that was told a state, and what it answered.
 pub(crate) fn told(tables: Parts, state: TableState<'_>) -> (Closed, Result<(), Refusal>)
-    ensures { TellsAll result.0.desk (state_calls state.entry) result.1 }
+    ensures { TellsAll (sizes_for tables) result.0.desk (state_calls state.entry) result.1 }
 {
     let mut writer = begin(tables);
     let answer = state.tell(&mut writer);
