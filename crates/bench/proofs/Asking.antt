@@ -12,9 +12,8 @@ use Rattle.document.specs.Replay.{replay, going, finish, hearing}
 use Rattle.de.specs.declared.reader.Reader.{Reader}
 use Rattle.de.specs.Answered.{Answers, Within}
 use Rattle.de.specs.Standing.{Stands, finishing}
-use Rattle.de.specs.Moves.{sheets}
 use Rattle.de.specs.Readers.{StandsFor, Tells, KeepsLengths}
-use Rattle.de.proofs.Sizes.{lengths_same, lengths_trans}
+use Rattle.de.proofs.Sizes.{lengths_trans}
 use Rattle.bench.specs.declared.tally.Tally.{Tally}
 use Rattle.bench.specs.Tallies.{amount}
 use Rattle.bench.specs.Hearing.{Counts, AskedOnce}
@@ -63,10 +62,6 @@ pub record Along (col : Meaning) (input : List ℕ) {C : Type 0} (old : Reader C
       → (R' : Reading) × StandsFor r R' × ((x : Result Tally Refusal) → Counts t.answers (finish (replay col input R' left)) x → Counts 0 (finish (replay col input R all)) x)
 
 module _ (col : Meaning) (input : List ℕ) {C : Type 0} (old : Reader C) (all : List Question) where
-  -- before the first
-  pub along-none : (t : Tally) → t.answers ≡ 0 → Along col input old all old t all
-  along-none t e = record { kind = refl; input_is = refl; lengths = lengths_same (sheets old.desk.tables) (sheets old.desk.tables) refl; went = λ R st. (R, st, λ x h. subst (λ s. Counts s (finish (replay col input R all)) x) e h) }
-
   module _ (r after : Reader C) (t : Tally) (q : Question) (left : List Question) (a : Along col input old all r t (q ∷ left)) (res : Result Tally Refusal)
       (told : (R : Reading) → StandsFor r R → AskedOnce input t after res (answer col R.store R.places q)) where
     -- the next question is refused
