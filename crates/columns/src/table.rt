@@ -2,6 +2,7 @@
 
 ghost use Rattle.columns.specs.declared.table.TheConstants.{MOST};
 ghost use Rattle.std.specs.Prelude.{◌≡◌, ◌*◌, ◌≤◌, IfOk, vec_len};
+ghost use Rattle.columns.specs.Numbers.{Lists};
 
 use std::alloc::{AllocError, Global};
 use std::num::ParseIntError;
@@ -44,9 +45,9 @@ pub enum LineError {
     TooMany,
 }
 
-/// The numbers of a text, at most `MOST` of them.
+/// The numbers that a text lists, at most `MOST` of them.
 pub(crate) fn numbers(alloc: Global, text: &str) -> Result<Vec<u64>, LineError>
-    ensures { IfOk result (λ values. vec_len values ≤ MOST) }
+    ensures { IfOk result (λ values. (vec_len values ≤ MOST) × Lists text.now values.items) }
 {
     let mut values = Vec::new(alloc);
     for word in text.split_whitespace() {

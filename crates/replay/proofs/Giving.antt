@@ -11,8 +11,9 @@ use Rattle.document.specs.Verdict.{Sizes, verdict}
 use Rattle.ser.specs.declared.desk.Desk.{Desk}
 use Rattle.ser.specs.declared.writer.Writer.{Writer}
 use Rattle.ser.specs.declared.writer.calls.Parts.{Parts}
-use Rattle.ser.specs.Moves.{blank_node}
+use Rattle.ser.specs.Moves.{blank_node, sheets}
 use Rattle.ser.specs.Standing.{Stands, Told}
+use Rattle.ser.specs.Tables.{sizes_of}
 use Rattle.replay.specs.declared.steps.Step.{Step}
 use Rattle.replay.specs.Given.{calls_of, takes, given, kept, marked, desk_of, sizes_at, sizes_for}
 
@@ -103,11 +104,10 @@ new-sizes w t n c x =
     same true = length-set (vec_items t.nodes) 1 blank_node
     same false = refl
 
--- .. and gets them back so
-pub back-sizes : (w : Writer) (d : Desk) (t u : Parts) → d ≡ desk_of w → u.nodes ≡ d.tables.nodes → u.cells ≡ d.tables.cells → u.text ≡ d.tables.text → sizes_at w ≡ sizes_for t → sizes_for u ≡ sizes_for t
-back-sizes w d t u e n c x s =
+-- a closed writer gives back tables of its own lengths
+pub back-sizes : (sizes : Sizes) (d : Desk) (u : Parts) → u.nodes ≡ d.tables.nodes → u.cells ≡ d.tables.cells → u.text ≡ d.tables.text → sizes_of (sheets d.tables) ≡ sizes → sizes_for u ≡ sizes
+back-sizes sizes d u n c x s =
     ap (λ v. let z : Sizes = record { nodes = length (vec_items v); cells = length (vec_items u.cells); text = length (vec_items u.text) } in z) n
     ∙ ap (λ v. let z : Sizes = record { nodes = length (vec_items d.tables.nodes); cells = length (vec_items v); text = length (vec_items u.text) } in z) c
     ∙ ap (λ v. let z : Sizes = record { nodes = length (vec_items d.tables.nodes); cells = length (vec_items d.tables.cells); text = length (vec_items v) } in z) x
-    ∙ ap (λ k. let z : Sizes = record { nodes = length (vec_items k.tables.nodes); cells = length (vec_items k.tables.cells); text = length (vec_items k.tables.text) } in z) e
     ∙ s

@@ -1,6 +1,8 @@
 use Rattle.std.proofs.Common.{[], sym, ap, ◌∙◌, subst}
 use Rattle.document.specs.Verdict.{Accepted}
+use Rattle.ser.specs.Moves.{sheets}
 use Rattle.ser.specs.Standing.{Stands}
+use Rattle.ser.specs.Tables.{sizes_of}
 use Rattle.replay.specs.Given.{calls_of, kept, marked, desk_of, sizes_for}
 use Rattle.replay.proofs.Giving.{new-sizes, back-sizes}
 use Rattle.replay.proofs.write.write_steps.Goals as goal
@@ -17,5 +19,5 @@ returns g c =
       steps = c.give.ensures.steps [] begun.stands ∙ ap (λ s. marked s [] c.args.steps.now) sizes;
       accepted = subst (λ s. Accepted s (kept (sizes_for t) [] (calls_of c.args.steps.now))) after st.accepted;
       written = c.write_out-answer.ensures (kept (sizes_for t) [] (calls_of c.args.steps.now)) closed;
-      tables = back-sizes c.give.new.writer c.close-closed.result.desk t c.into_tables.result c.close-closed.ensures c.into_tables.ensures.nodes c.into_tables.ensures.cells c.into_tables.ensures.text after;
+      tables = back-sizes (sizes_for t) c.close-closed.result.desk c.into_tables.result c.into_tables.ensures.nodes c.into_tables.ensures.cells c.into_tables.ensures.text (ap (λ d. sizes_of (sheets d.tables)) c.close-closed.ensures ∙ after);
     }

@@ -1,8 +1,9 @@
 use Rattle.std.proofs.Common.{Ok, Err, inl}
 use Rattle.replay.specs.Given.{sizes_for}
+use Rattle.replay.proofs.Giving.{back-sizes}
 use Rattle.states.specs.Documents.{state_calls}
 use Rattle.states.proofs.Sent.{written-or-not}
-use Rattle.states.proofs.Sizes.{back-sizes, told-sizes}
+use Rattle.states.proofs.Sizes.{told-sizes}
 use Rattle.states.proofs.message.send.Goals.{in-Ok, in-Err}
 use Rattle.states.proofs.message.send.Goals as goal
 
