@@ -1,7 +1,8 @@
 //! The flat kind: each value as it stands in memory, the low byte first.
 
-ghost use Rattle.std.specs.Prelude.{◌≡◌};
-ghost use Rattle.column.specs.Digits.{low};
+ghost use Rattle.std.specs.Prelude.{◌≡◌, true, length, take, if◌then◌else◌, Some, None, nat_le};
+ghost use Rattle.column.specs.Digits.{low, total};
+ghost use Rattle.column.specs.Widths.{listed};
 ghost use Rattle.column.specs.Flat.{size, flat_one};
 ghost use Rattle.column.specs.Laws.Flat.{flat-coding};
 
@@ -19,6 +20,22 @@ fn size_of(width: u32) -> usize
     if width == 1 { 1 } else { (width / 8) as usize }
 }
 
+/// The number that the first bytes write, as many as a value has; `None` where there are fewer.
+fn first_number(width: u32, bytes: &[u8]) -> Option<u64>
+    requires { listed width ≡ true }
+    ensures { result ≡ (if nat_le (size width) (length bytes.now) then Some (total 256 (take (size width) bytes.now)) else None) }
+{
+    match (width, bytes) {
+        (1 | 8, [a, ..]) => Some(u64::from(*a)),
+        (16, [a, b, ..]) => Some(u64::from(u16::from_le_bytes([*a, *b]))),
+        (32, [a, b, c, d, ..]) => Some(u64::from(u32::from_le_bytes([*a, *b, *c, *d]))),
+        (64, [a, b, c, d, e, f, g, h, ..]) => {
+            Some(u64::from_le_bytes([*a, *b, *c, *d, *e, *f, *g, *h]))
+        }
+        _ => None,
+    }
+}
+
 impl Code for Flat {
     ghost code = { λ _ w v. low 256 (size w) v };
 
@@ -31,21 +48,25 @@ impl Code for Flat {
         if size > room.len() {
             return None;
         }
-        room[..size].copy_from_slice(&value.to_le_bytes()[..size]);
+        let code = value.to_le_bytes();
+        // Stays: each size has a copy of its own, which is a store; a copy of `size` bytes is a call of the library for each value.
+        match size {
+            1 => room[..1].copy_from_slice(&code[..1]),
+            2 => room[..2].copy_from_slice(&code[..2]),
+            4 => room[..4].copy_from_slice(&code[..4]),
+            _ => room[..8].copy_from_slice(&code),
+        }
         Some(size)
     }
 
     fn take(&self, layer: u16, width: u32, bytes: &[u8]) -> Result<Taken, Fault> {
-        let size = size_of(width);
-        if size > bytes.len() {
+        let Some(value) = first_number(width, bytes) else {
             return Err(Cause::Short.at(layer));
-        }
-        let mut whole = [0; 8];
-        whole[..size].copy_from_slice(&bytes[..size]);
-        let value = u64::from_le_bytes(whole);
+        };
         if width == 1 && value > 1 {
             return Err(Cause::Bad.at(layer));
         }
+        let size = size_of(width);
         Ok(Taken { value, size })
     }
 }

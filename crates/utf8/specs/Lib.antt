@@ -3,3 +3,4 @@ pub mod Passes
 pub mod Scalars
 pub mod Examples
 pub mod Ascii
+pub mod Ranges

@@ -8,3 +8,9 @@ invariant-loop-left l = Past l.text l.left
 
 abbrev pub decreases-loop-left : goal.decreases-loop-left
 decreases-loop-left l = length l.left
+
+abbrev pub invariant-loop-left-2 : goal.invariant-loop-left-2
+invariant-loop-left-2 l = Past l.text l.left
+
+abbrev pub decreases-loop-left-2 : goal.decreases-loop-left-2
+decreases-loop-left-2 l = length l.left
