@@ -1,11 +1,11 @@
 //! One call, by the innermost place's state.
 
-ghost use Rattle.std.specs.Prelude.{◌<◌};
+ghost use Rattle.std.specs.Prelude.{◌≡◌, ◌<◌};
 ghost use Rattle.document.specs.Said.{said};
 ghost use Rattle.document.specs.Verdict.{Real};
 ghost use Rattle.nodes.specs.Stack.{top};
 ghost use Rattle.ser.specs.Moves.{sheets};
-ghost use Rattle.ser.specs.Steps.{outcome, calling, Took, Did};
+ghost use Rattle.ser.specs.Steps.{is_deep, outcome, calling, Took, Did};
 ghost use Rattle.ser.specs.Safe.{Safe};
 
 use super::Desk;
@@ -82,13 +82,20 @@ impl Desk {
         Ok(opened)
     }
 
+    /// Whether the call would open a place too many.
+    fn is_deep(&self, call: Call) -> bool
+        ensures { result ≡ is_deep self.now (said call.entry) }
+    {
+        self.places.depth == MOST_OPEN && is_opening(call)
+    }
+
     /// One call.
     pub(crate) fn call(&mut self, call: Call) -> Result<(), Refusal>
         requires safe { Safe self.old }
         ensures did { Did self.old self.new result (calling self.old (said call.entry)) }
         ensures real { Real (said call.entry) }
     {
-        let deep = is_opening(call) && self.places.depth == MOST_OPEN;
+        let deep = self.is_deep(call);
         if self.places.depth == 0 {
             return Err(Refusal::Complete);
         }
