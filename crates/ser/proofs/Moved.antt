@@ -1,18 +1,15 @@
 -- What a move leaves at a record, and of the tables.
-use Rattle.std.proofs.Common.{◌≡◌, ℕ, zero, suc, ◌+◌, ◌<◌, Bool, true, false, cond, eqb, List, [], length, get_or, set, Option, add-zero, refl, ap, ◌∙◌, ap₂, ⊎_elim, arith, get_or-set_other}
+use Rattle.std.proofs.Common.{◌≡◌, ℕ, zero, suc, ◌+◌, ◌<◌, Bool, true, false, cond, eqb, List, length, get_or, set, Option, refl, ap, ◌∙◌, ⊎_elim, arith, get_or-set_other}
 use Rattle.std.specs.declared.option.Option.TheVariants as options
 use Rattle.std.proofs.lemmas.Bool.{cases_eq}
-use Rattle.column.proofs.Overlaid.{overlaid-nil}
 use Rattle.chain.specs.declared.Chain.{Chain}
 use Rattle.chain.specs.Chains.{adjust, appended, longer}
 use Rattle.chain.proofs.Tables.{length-adjust, length-appended, get_or-adjust-same, get_or-adjust-other, get_or-appended-place, adjust-keeps, appended-first, appended-after}
-use Rattle.document.specs.Calls.{scalar, text, unit, none, some, variant, seq, map, tuple, Call, val, end}
 use Rattle.nodes.specs.declared.marks.Mark.{Mark}
 use Rattle.nodes.specs.Marks.{family_of}
 use Rattle.ser.specs.declared.records.Node.{Node}
 use Rattle.ser.specs.declared.loads.Load.{Load}
-use Rattle.ser.specs.Moves.{Sheets, node, blank_node, child, is_fresh, with_next, with_mark, with_order, with_children, with_cells, with_sum, spawned, named, grown, touched, celled, kept, branched, written, lettered}
-use Rattle.ser.specs.Brings.{letters_in}
+use Rattle.ser.specs.Moves.{Sheets, node, blank_node, child, is_fresh, with_next, with_mark, with_order, with_children, with_cells, with_sum, spawned, named, grown, touched, celled, kept, branched}
 
 -- ---- a new child
 
@@ -180,22 +177,3 @@ length-celled r x T = length-adjust (with_cells (longer (node T r).cells T.taken
 pub kept-rest : {Y : Type 0} (g : Sheets → Y) → ((r : ℕ) (x : Load) (T : Sheets) → g (celled r x T) ≡ g T) → (r : ℕ) (load : Option Load) (T : Sheets) → g (kept r load T) ≡ g T
 kept-rest g h r options.None T = refl
 kept-rest g h r (options.Some x) T = h r x T
-
--- ---- letters
-
--- no letter is written where a call brings none
-written-nothing : (T : Sheets) → written [] T ≡ T
-written-nothing T = ap₂ (λ xs n. record T { text = xs; filled = n }) (overlaid-nil T.filled T.text) (add-zero T.filled)
-
--- the letters that a call brings are written
-pub letters-written : (c : Call) (T : Sheets) → written (letters_in c) T ≡ lettered c T
-letters-written (val (scalar k b)) T = written-nothing T
-letters-written (val (text bs)) T = refl
-letters-written (val unit) T = written-nothing T
-letters-written (val none) T = written-nothing T
-letters-written (val some) T = written-nothing T
-letters-written (val (variant i)) T = written-nothing T
-letters-written (val (seq n)) T = written-nothing T
-letters-written (val (map n)) T = written-nothing T
-letters-written (val (tuple n)) T = written-nothing T
-letters-written end T = written-nothing T

@@ -1,5 +1,5 @@
 -- What a call brings to the node at which its value stands.
-use Rattle.std.specs.Prelude.{ℕ, Bool, true, false, List, [], length, Option, ◌==◌}
+use Rattle.std.specs.Prelude.{◌≡◌, ℕ, Bool, true, false, List, [], length, Option, ◌==◌}
 use Rattle.std.specs.declared.option.Option.TheVariants as options
 use Rattle.document.specs.Calls.{Value, scalar, text, unit, none, some, variant, seq, map, tuple, kind, Call, val, end}
 use Rattle.document.specs.Tables.{length_cells}
@@ -108,3 +108,7 @@ is_opening (val (seq n)) = true
 is_opening (val (map n)) = true
 is_opening (val (tuple n)) = true
 is_opening end = false
+
+-- a call brings this mark, this load and this index, and is no `tuple 1`
+abbrev pub Brings : Call → Mark → Option Load → Option ℕ → Type 0
+Brings c m x i = (m ≡ marking c) × (x ≡ loading c) × (i ≡ branching c) × (is_lone c ≡ false)

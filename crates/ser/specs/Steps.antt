@@ -11,7 +11,7 @@ use Rattle.nodes.specs.Ahead.{Ahead, nowhere, there, ahead, is_full}
 use Rattle.ser.specs.declared.desk.Desk.{Desk}
 use Rattle.ser.specs.Brings.{branching, is_opening}
 use Rattle.ser.specs.Moves.{Sheets, sheets, node, branch_in, entered, entered_child}
-use Rattle.ser.specs.Tables.{weighed_at}
+use Rattle.ser.specs.Tables.{lacks_nodes, weighed_at}
 
 -- ---- a value at a record
 
@@ -27,6 +27,10 @@ opened_at T r k (val (seq n)) = options.Some (Items (node T r).children.first n)
 opened_at T r k (val (map n)) = options.Some (Keys (node T r).children.first n)
 opened_at T r k (val (tuple n)) = options.Some (cond (n == 1) (Lone r 1) (Fields (node T r).children.first n))
 opened_at T r k end = options.None
+
+-- a `tuple 1` takes no record of its own
+abbrev pub lone_at : Sheets → ℕ → Result (Option State) Refusal
+lone_at T r = cond (lacks_nodes T 0) (Err refusals.Nodes) (Ok (options.Some (Lone r 1)))
 
 -- the tables after it
 unfoldable pub entered_at : Sheets → ℕ → Call → Sheets

@@ -1,13 +1,15 @@
 //! What a call brings to the node at which its value stands.
 
-ghost use Rattle.std.specs.Prelude.{◌≡◌};
+ghost use Rattle.std.specs.Prelude.{◌≡◌, Some, None};
+ghost use Rattle.document.specs.Calls.{scalar, val};
 ghost use Rattle.document.specs.Said.{said};
 ghost use Rattle.document.specs.Tables.{length_cells};
-ghost use Rattle.document.specs.Verdict.{Real};
-ghost use Rattle.ser.specs.Brings.{number_load, length_load, marking, loading, branching, letters_in, is_lone, is_opening};
+ghost use Rattle.nodes.specs.declared.marks.Mark.TheVariants.{Enum as enum_mark};
+ghost use Rattle.ser.specs.Brings.{Brings, number_load, length_load, is_opening};
 
 use document::calls::Call;
 use document::limits::LONG;
+use document::numbers::Number;
 use nodes::marks::Mark;
 
 /// What a node keeps of a value.
@@ -45,75 +47,79 @@ impl Load {
     }
 }
 
-/// What the call marks its node as; `end` is no value, and marks nothing.
-// Stays: from here on beside the reader's functions of these names, since calls and answers are other types.
-pub(crate) fn mark_of(call: Call) -> Mark
-    ensures { result ≡ marking (said call.entry) }
-{
-    if let Some(number) = call.number() {
-        return Mark::Scalar(number.kind);
-    }
-    match call {
-        Call::Text(_) => Mark::Text,
-        Call::Unit => Mark::Unit,
-        Call::None | Call::Some | Call::Variant(_) => Mark::Enum,
-        Call::Seq(_) => Mark::Seq,
-        Call::Map(_) => Mark::Map,
-        Call::Tuple(n) => Mark::Tuple(n),
-        _ => Mark::Unmarked,
-    }
+/// What a call brings to its node. A `tuple 1` brings nothing, and has none.
+#[derive(Clone, Copy)]
+pub(crate) struct Brought<'a> {
+    pub(crate) call: Call<'a>,
+    /// What it marks its node as; `end` is no value, and marks nothing.
+    pub(crate) mark: Mark,
+    /// What the node keeps of it.
+    pub(crate) load: Option<Load>,
+    /// The index whose child the value that follows stands at.
+    pub(crate) index: Option<u32>,
+    ghost brings: { Brings (said call) mark load index },
 }
 
-/// What the node keeps of it.
-pub(crate) fn load_of(call: Call) -> Option<Load>
-    ensures { result ≡ loading (said call.entry) }
-{
-    if let Some(number) = call.number() {
-        return Some(Load::number(number.bits));
+// Stays: beside the reader's functions on answers, since calls and answers are other types.
+impl<'a> Brought<'a> {
+    /// A number.
+    pub(crate) fn number(call: Call<'a>, number: Number) -> Brought<'a>
+        requires { said call ≡ val (scalar number.kind number.bits) }
+        ensures { result.call ≡ call.entry }
+    {
+        Brought {
+            call,
+            mark: Mark::Scalar(number.kind),
+            load: Some(Load::number(number.bits)),
+            index: None,
+        }
     }
-    match call {
-        Call::Text(letters) => Some(Load::length(letters.len() as u64)),
-        Call::None => Some(Load::number(0)),
-        Call::Some => Some(Load::number(1)),
-        Call::Variant(i) => Some(Load::number(u64::from(i))),
-        Call::Seq(n) | Call::Map(n) => Some(Load::length(n)),
-        _ => None,
-    }
-}
 
-/// The text bytes that the call brings.
-pub(crate) fn letters_of(call: Call<'_>) -> &[u8]
-    ensures { result.now ≡ letters_in (said call.entry) }
-{
-    match call {
-        Call::Text(letters) => letters,
-        _ => &[],
+    /// An option, as index 0 or 1, or a variant.
+    pub(crate) fn index(call: Call<'a>, index: u32) -> Brought<'a>
+        requires { Brings (said call) enum_mark (Some (number_load index)) (Some index) }
+        ensures { result.call ≡ call.entry }
+    {
+        Brought {
+            call,
+            mark: Mark::Enum,
+            load: Some(Load::number(u64::from(index))),
+            index: Some(index),
+        }
     }
-}
 
-/// The index whose child the value that follows stands at.
-pub(crate) fn index_of(call: Call) -> Option<u32>
-    ensures { result ≡ branching (said call.entry) }
-{
-    match call {
-        Call::None => Some(0),
-        Call::Some => Some(1),
-        Call::Variant(i) => Some(i),
-        _ => None,
+    /// A length, of a text, a seq or a map.
+    pub(crate) fn length(call: Call<'a>, mark: Mark, length: u64) -> Brought<'a>
+        requires { Brings (said call) mark (Some (length_load length)) None }
+        ensures { result.call ≡ call.entry }
+    {
+        Brought {
+            call,
+            mark,
+            load: Some(Load::length(length)),
+            index: None,
+        }
     }
-}
 
-/// Whether the call is `tuple 1`, which marks nothing.
-pub(crate) fn is_lone(call: Call) -> bool
-    ensures { result ≡ is_lone (said call.entry) }
-{
-    matches!(call, Call::Tuple(1))
+    /// Nothing but a mark.
+    pub(crate) fn bare(call: Call<'a>, mark: Mark) -> Brought<'a>
+        requires { Brings (said call) mark None None }
+        ensures { result.call ≡ call.entry }
+    {
+        Brought {
+            call,
+            mark,
+            load: None,
+            index: None,
+        }
+    }
 }
 
 /// Whether the call opens a place.
+// Stays: `inline(never)`, since it is asked only where as many places are open as there can be.
+#[inline(never)]
 pub(crate) fn is_opening(call: Call) -> bool
-    ensures answer { result ≡ is_opening (said call.entry) }
-    ensures real { Real (said call.entry) }
+    ensures { result ≡ is_opening (said call.entry) }
 {
     matches!(
         call,

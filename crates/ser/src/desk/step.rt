@@ -1,11 +1,11 @@
 //! One call, by the innermost place's state.
 
-ghost use Rattle.std.specs.Prelude.{◌<◌};
+ghost use Rattle.std.specs.Prelude.{◌≡◌, ◌<◌};
 ghost use Rattle.document.specs.Said.{said};
 ghost use Rattle.document.specs.Verdict.{Real};
 ghost use Rattle.nodes.specs.Stack.{top};
 ghost use Rattle.ser.specs.Moves.{sheets};
-ghost use Rattle.ser.specs.Steps.{outcome, calling, Took, Did};
+ghost use Rattle.ser.specs.Steps.{is_deep, outcome, calling, Took, Did};
 ghost use Rattle.ser.specs.Safe.{Safe};
 
 use super::Desk;
@@ -23,7 +23,8 @@ impl Desk {
         ensures { Took self.old self.new result (outcome deep (sheets self.old.tables) (top self.old.places) (said call.entry)) }
     {
         let place = &mut self.places.table[self.places.depth - 1];
-        match (&mut place.state, call) {
+        // Where the value stands, and the place's state once it is counted; the root's place gives way to the one that its value opens.
+        let (node, after) = match (place.state, call) {
             (
                 State::Items { left: 0, .. }
                 | State::Keys { left: 0, .. }
@@ -32,9 +33,9 @@ impl Desk {
                 Call::End,
             ) => {
                 place.state = State::Closing;
-                Ok(None)
+                return Ok(None);
             }
-            (_, Call::End) => Err(Refusal::Count),
+            (_, Call::End) => return Err(Refusal::Count),
             (
                 State::Items { left: 0, .. }
                 | State::Keys { left: 0, .. }
@@ -42,12 +43,8 @@ impl Desk {
                 | State::Lone { left: 0, .. }
                 | State::Closing,
                 _,
-            ) => Err(Refusal::Count),
-            (State::Root, _) => {
-                let opened = self.tables.enter(1, call)?;
-                place.state = opened.unwrap_or(State::Closing);
-                Ok(None)
-            }
+            ) => return Err(Refusal::Count),
+            (State::Root, _) => (1, None),
             (
                 State::Items { .. }
                 | State::Keys { .. }
@@ -56,41 +53,40 @@ impl Desk {
                 | State::Lone { .. }
                 | State::One { .. },
                 _,
-            ) if deep => Err(Refusal::Depth),
+            ) if deep => return Err(Refusal::Depth),
             (State::Items { node, left }, _) => {
-                let opened = self.tables.enter(*node, call)?;
-                *left -= 1;
-                Ok(opened)
+                let left = left - 1;
+                (node, Some(State::Items { node, left }))
             }
             (State::Keys { node, left }, _) => {
-                let (node, left) = (*node, *left - 1);
-                let opened = self.tables.enter(node, call)?;
-                place.state = State::Vals { node, left };
-                Ok(opened)
+                let left = left - 1;
+                (node, Some(State::Vals { node, left }))
             }
-            (State::Vals { node, left }, _) => {
-                let (node, left) = (*node, *left);
-                let opened = self.tables.enter(node + 1, call)?;
-                place.state = State::Keys { node, left };
-                Ok(opened)
-            }
+            (State::Vals { node, left }, _) => (node + 1, Some(State::Keys { node, left })),
             (State::Fields { node, left }, _) => {
-                let opened = self.tables.enter(*node, call)?;
-                *node += 1;
-                *left -= 1;
-                Ok(opened)
+                let (next, left) = (node + 1, left - 1);
+                (node, Some(State::Fields { node: next, left }))
             }
             (State::Lone { node, left }, _) => {
-                let opened = self.tables.enter(*node, call)?;
-                *left -= 1;
-                Ok(opened)
+                let left = left - 1;
+                (node, Some(State::Lone { node, left }))
             }
-            (State::One { node }, _) => {
-                let opened = self.tables.enter(*node, call)?;
-                place.state = State::Closing;
-                Ok(opened)
-            }
-        }
+            (State::One { node }, _) => (node, Some(State::Closing)),
+        };
+        let opened = self.tables.enter(node, call)?;
+        let Some(state) = after else {
+            place.state = opened.unwrap_or(State::Closing);
+            return Ok(None);
+        };
+        place.state = state;
+        Ok(opened)
+    }
+
+    /// Whether the call would open a place too many.
+    fn is_deep(&self, call: Call) -> bool
+        ensures { result ≡ is_deep self.now (said call.entry) }
+    {
+        self.places.depth == MOST_OPEN && is_opening(call)
     }
 
     /// One call.
@@ -99,7 +95,7 @@ impl Desk {
         ensures did { Did self.old self.new result (calling self.old (said call.entry)) }
         ensures real { Real (said call.entry) }
     {
-        let deep = is_opening(call) && self.places.depth == MOST_OPEN;
+        let deep = self.is_deep(call);
         if self.places.depth == 0 {
             return Err(Refusal::Complete);
         }
