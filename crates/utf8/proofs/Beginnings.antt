@@ -2,7 +2,7 @@
 use Rattle.std.proofs.Common.{◌≡◌, ℕ, ◌+◌, ◌-◌, ◌<◌, ◌≤◌, List, [], ◌∷◌, ◌++◌, length, get_or, take, drop, bit_and, sym, refl, ap, ◌∙◌, subst, append_assoc, arith, lit<}
 use Rattle.std.specs.List.{AllByRecursion}
 use Rattle.std.proofs.lemmas.Bool.{le-leb, and_from}
-use Rattle.std.proofs.lemmas.List.{take_rest, take-append-drop, length-append, get_or-append-add}
+use Rattle.std.proofs.lemmas.List.{take_rest, take-append-drop, get_or-append-add}
 use Rattle.std.specs.Int.{w64, bit_at, from_le_bytes}
 use Rattle.std.proofs.lemmas.Nat.Bits.{bit_at_and, bit_at-zero}
 use Rattle.std.proofs.ByRecursion.{has_get_or, All-append}
@@ -21,14 +21,6 @@ past-alike text rest (front, e, a) = subst (Alike rest) (sym e) (go front a)
     go : (front : List ℕ) → AllByRecursion (λ b. b ≤ 0x7f) front → Alike rest (front ++ rest)
     go [] a = (λ w. w, λ w. w)
     go (b ∷ bs) a = let one = alike-one b (bs ++ rest) a.0 in let more = go bs a.1 in (λ w. one.0 (more.0 w), λ w. more.1 (one.1 w))
-
--- and no longer
-pub past-length : (text rest : List ℕ) → Past text rest → length rest ≤ length text
-past-length text rest (front, e, a) = let whole = ap length e ∙ length-append front rest in omega (arith, whole)
-
--- nothing is passed
-pub past-none : (s : List ℕ) → Past s s
-past-none s = ([], refl, tt)
 
 -- the highest bit of each of eight bytes
 abbrev high_bits : ℕ
