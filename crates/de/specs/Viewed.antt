@@ -43,6 +43,14 @@ found T m x g =
       gain = options.Some g;
     }
 
+-- a view of a node that was read before is of the record as it stands, but for the mark
+abbrev pub StandsAs : Sheets → ℕ → Node → Option Gain → Type 0
+StandsAs T r x options.None = x ≡ remarked x.mark (node T r)
+StandsAs T r x (options.Some g) = Unit {0}
+
+abbrev pub Stands : Sheets → ℕ → View → Type 0
+Stands T r v = StandsAs T r v.node v.gain
+
 -- how far reading came then: nowhere if the node was read before
 abbrev pub reached : Spot → Option Gain → Spot
 reached spot options.None = spot

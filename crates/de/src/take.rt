@@ -2,6 +2,7 @@
 
 ghost use Rattle.std.specs.Prelude.{◌≡◌, ◌+◌, ◌<◌, ◌≤◌, vec_len};
 ghost use Rattle.de.specs.Moves.{sheets, node, spawned, grown, branch_in};
+ghost use Rattle.de.specs.Viewed.{Stands};
 ghost use Rattle.de.specs.Taken.{GrowSafe, TakeSafe, BranchSafe, columns_with, children_with, taken_in, branched, branch_then, opened_at, occurrences};
 
 use crate::columns::Gain;
@@ -61,19 +62,29 @@ impl Tables {
         }
     }
 
-    /// The node's next value is answered, with so many text bytes. Where its columns were read just now, the tables are used so far, and the children come that its kind brings.
+    /// The node's next value is answered, with so many text bytes. Where its columns were read just now, the tables are used so far, and the children come that its kind brings;
+    /// of a node that was read before, only what an answer changes is written.
     pub(crate) fn take_in(&mut self, r: usize, view: View, letters: usize)
-        requires { TakeSafe (sheets self.old) r view letters }
+        requires safe { TakeSafe (sheets self.old) r view letters }
+        requires same { Stands (sheets self.old) r view }
         ensures { sheets self.new ≡ taken_in r view letters (sheets self.old) }
     {
         let View { mut node, gain } = view;
-        node.done += 1;
-        node.text += letters;
-        self.nodes[r] = node;
-        if let Some(Gain { spot, sum, .. }) = gain {
-            self.spot = spot;
-            self.columns += columns_of(node.mark);
-            self.grow(r, node.mark.family(), child_count(node, sum));
+        match gain {
+            None => {
+                let kept = &mut self.nodes[r];
+                kept.mark = node.mark;
+                kept.done += 1;
+                kept.text += letters;
+            }
+            Some(Gain { spot, sum, .. }) => {
+                node.done += 1;
+                node.text += letters;
+                self.nodes[r] = node;
+                self.spot = spot;
+                self.columns += columns_of(node.mark);
+                self.grow(r, node.mark.family(), child_count(node, sum));
+            }
         }
     }
 

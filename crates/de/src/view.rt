@@ -1,11 +1,11 @@
 //! A node as a question finds it: its columns are read where they were not read yet.
 
-ghost use Rattle.std.specs.Prelude.{◌≡◌};
+ghost use Rattle.std.specs.Prelude.{◌≡◌, IfOk};
 ghost use Rattle.document.specs.Calls.{Kind};
 ghost use Rattle.nodes.specs.Marks.{mark_of as mark_of_kind};
 ghost use Rattle.de.specs.Moves.{sheets, node, lacks_nodes};
 ghost use Rattle.de.specs.Served.{Spared};
-ghost use Rattle.de.specs.Viewed.{LookSafe, Looks};
+ghost use Rattle.de.specs.Viewed.{LookSafe, Stands, Looks};
 
 use crate::columns::{Gain, Source};
 use crate::records::Node;
@@ -39,6 +39,7 @@ impl Tables {
     ) -> Result<View, Refusal>
         requires { LookSafe source.now.input.now (sheets self.old) r }
         ensures spared { Spared (sheets self.old) (sheets self.new) }
+        ensures stands { IfOk result (Stands (sheets self.old) r) }
         ensures answer { (K : Kind) → mark ≡ mark_of_kind K → Looks (C.Column.meaning source.now.kind.now) source.now.input.now (sheets self.old) self.new.slots.items r K result }
     {
         let mut node = self.nodes[r];

@@ -1,4 +1,4 @@
-use Rattle.std.proofs.Common.{rules, ◌≡◌, ◌<◌, ◌^◌, true, false, ◌&&◌, length, Ok, Err, Result, sym, ap, ◌∙◌, subst, arith}
+use Rattle.std.proofs.Common.{rules, ◌≡◌, ◌<◌, ◌^◌, true, false, ◌&&◌, length, Ok, Err, Result, IfOk, sym, ap, ◌∙◌, subst, arith}
 use Rattle.document.specs.declared.refusals.Refusal.{Refusal}
 use Rattle.document.specs.declared.questions.Answer.{Answer}
 use Rattle.de.specs.declared.view.View.{View}
@@ -6,7 +6,7 @@ use Rattle.de.specs.Moves.{sheets, branch_in, lacks_child}
 use Rattle.document.specs.Reader.{asks}
 use Rattle.de.specs.Asked.{marking, branching, opens_place}
 use Rattle.de.specs.Served.{Consulted}
-use Rattle.de.specs.Viewed.{Looks}
+use Rattle.de.specs.Viewed.{Stands, Looks}
 use Rattle.de.specs.Hearing.{Heard as HeardAs}
 use Rattle.de.specs.Taken.{taken_in, branched, branch_then, opened_at}
 use Rattle.de.proofs.Asking.{marking_is}
@@ -72,10 +72,16 @@ returns-then-lacks_child g c =
     (c.branch-child.ensures ∙ ap (branch_in (sheets c.look.new.self) c.in_ok-view.view.node) index) (sym (c.lacks_child.ensures ∙ ap (lacks_child (sheets c.look.new.self) c.branch-child.result) index) ∙ c.if-lacks_child.true)
 
 -- taking the answer is safe
-pub take_in-requires : goal.take_in-requires
-take_in-requires g c =
+pub take_in-requires-clause-safe : goal.take_in-requires-clause-safe
+take_in-requires-clause-safe g c =
     let short : length c.args.source.now.input.now < 2 ^ 64 = omega arith in
-    rw c.letters_of.ensures (take_safe (listened g (goal.at.take_in-requires g c).After-hear (Ok c.in_ok-answer.answer) c.in_ok-answer.was (looked g (goal.at.take_in-requires g c).After-look (Ok c.in_ok-view.view) c.in_ok-view.was)) c.requires.readable c.requires.asks.0 c.requires.asks.1 short)
+    rw c.letters_of.ensures (take_safe (listened g (goal.at.take_in-requires-clause-safe g c).After-hear (Ok c.in_ok-answer.answer) c.in_ok-answer.was (looked g (goal.at.take_in-requires-clause-safe g c).After-look (Ok c.in_ok-view.view) c.in_ok-view.was)) c.requires.readable c.requires.asks.0 c.requires.asks.1 short)
+
+-- a node that was read before is viewed as it stands
+pub take_in-requires-clause-same : goal.take_in-requires-clause-same
+take_in-requires-clause-same g c =
+    let stands = subst (λ told. IfOk told (Stands (sheets c.args.self.now) c.args.r)) c.in_ok-view.was c.look.ensures.stands in
+    subst (λ nodes. Stands (record (sheets c.args.self.now) { nodes = nodes }) c.args.r c.in_ok-view.view) (sym c.look.ensures.spared.nodes) stands
 
 -- so is a record for a new branch
 pub branch_out-child-requires : goal.branch_out-child-requires
