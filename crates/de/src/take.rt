@@ -69,7 +69,7 @@ impl Tables {
         requires same { Stands (sheets self.old) r view }
         ensures { sheets self.new ≡ taken_in r view letters (sheets self.old) }
     {
-        let View { mut node, gain } = view;
+        let View { node, gain } = view;
         match gain {
             None => {
                 let kept = &mut self.nodes[r];
@@ -78,9 +78,11 @@ impl Tables {
                 kept.text += letters;
             }
             Some(Gain { spot, sum, .. }) => {
-                node.done += 1;
-                node.text += letters;
-                self.nodes[r] = node;
+                self.nodes[r] = Node {
+                    done: node.done + 1,
+                    text: node.text + letters,
+                    ..node
+                };
                 self.spot = spot;
                 self.columns += columns_of(node.mark);
                 self.grow(r, node.mark.family(), child_count(node, sum));
