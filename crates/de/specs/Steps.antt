@@ -1,5 +1,5 @@
 -- One question, as the code goes about it: by the innermost place's state.
-use Rattle.std.specs.Prelude.{◌≡◌, ℕ, Bool, false, cond, List, Ok, Err, Result, ◌==◌}
+use Rattle.std.specs.Prelude.{◌≡◌, ℕ, Bool, cond, List, Ok, Err, Result, ◌==◌}
 use Rattle.std.specs.declared.option.Option.TheVariants as options
 use Rattle.column.specs.Meaning.{Meaning}
 use Rattle.document.specs.declared.refusals.Refusal.{Refusal}

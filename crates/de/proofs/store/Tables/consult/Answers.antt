@@ -6,8 +6,8 @@ use Rattle.document.specs.Reader.{asks}
 use Rattle.de.specs.Asked.{marking, branching, opens_place}
 use Rattle.de.specs.Served.{Consulted}
 use Rattle.de.specs.declared.columns.Gain.{Gain}
-use Rattle.de.specs.Viewed.{View, viewed, views, sight, Looks}
-use Rattle.de.specs.Hearing.{HearSafe, HeardIn, Heard as HeardAs}
+use Rattle.de.specs.Viewed.{View, viewed, views, Looks}
+use Rattle.de.specs.Hearing.{HeardIn, Heard as HeardAs}
 use Rattle.de.specs.Taken.{taken_in, branched, branch_then, opened_at}
 use Rattle.de.proofs.Asking.{marking_is}
 use Rattle.de.proofs.Consulted.{bytes_of, has_root, look_safe, Looked, Listened, hear_safely, consulted_view, consulted_answer, consulted_depth, consulted_nodes, consulted_ok, take_safe, branch_safe}
