@@ -43,9 +43,9 @@ impl Tables {
         ensures spared { Spared (sheets self.old) (sheets self.new) }
         ensures answer { (K : Kind) → mark ≡ mark_of_kind K → Looks (C.Column.meaning source.now.kind.now) source.now.input.now (sheets self.old) self.new.slots.items r K (views (sheets self.new) r mark result) }
     {
-        let known = self.nodes[r].mark;
-        if known != Mark::Unmarked {
-            if !known.is_kin(mark) {
+        let known = &self.nodes[r];
+        if known.mark != Mark::Unmarked {
+            if !known.mark.is_kin(mark) {
                 return Err(Refusal::Kind);
             }
             return Ok(None);
