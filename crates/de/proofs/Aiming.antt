@@ -13,6 +13,7 @@ use Rattle.nodes.proofs.Stacked.{levels_top}
 use Rattle.de.specs.declared.desk.Desk.{Desk}
 use Rattle.de.specs.Moves.{Sheets, sheets}
 use Rattle.de.specs.Reads.{Reads}
+use Rattle.de.specs.Served.{Readable}
 use Rattle.de.specs.Steps.{Plan, declines, closes, begins, asks, on_ahead, on_question, Aims}
 use Rattle.de.specs.Standing.{Stands}
 
@@ -53,3 +54,11 @@ aims-prop input T (asks r s) a b = ∥∥₁_prop a b
 pub kept-aims : (d : Desk) (input : List ℕ) → 0 < d.places.depth → ∥ ((R : Reading) × Stands d input R) ∥₁ → Aims input (sheets d.tables) (on_question (top d.places))
 kept-aims d input h s =
     ∥∥₁_elim s (aims-prop input (sheets d.tables) (on_question (top d.places))) (λ (R, S). open-aims input (sheets d.tables) S.nodes R.store S.reads (top d.places) _ R.places (open_top d input R S h))
+
+-- a plan that asks a record asks a node's
+pub aims-at : (input : List ℕ) (T : Sheets) (x : Plan) (r : ℕ) (t : State) → x ≡ asks r t → Aims input T x → Readable input T r
+aims-at input T x r t e aims = subst (Aims input T) e aims
+
+-- .. and so does one that begins
+pub aims-at-root : (input : List ℕ) (T : Sheets) (x : Plan) (r : ℕ) → x ≡ begins → r ≡ 1 → Aims input T x → Readable input T r
+aims-at-root input T x r e is aims = rw is (subst (Aims input T) e aims)

@@ -25,6 +25,7 @@ use Rattle.de.specs.Moves.{Sheets, node}
 use Rattle.de.specs.Asked.{Sized, opens_place, branching, letters_of}
 use Rattle.de.specs.Answered.{Answers, question_of, Worthy}
 use Rattle.de.specs.Reads.{Lies, Values, Children}
+use Rattle.de.specs.Viewed.{sight}
 use Rattle.de.specs.Taken.{stepped, opened_at}
 use Rattle.de.specs.Hearing.{next_number, Stands, HearSafe, HeardIn}
 
@@ -224,7 +225,7 @@ module _ (ask : Ask) (c : Cell) (v : Value) (a : Answer) (place : ℕ) (e : wort
 -- ---- the next value
 
 -- the next number of a node's values
-pub next_is : (T : Sheets) (x : Row) (c : Cell) (cs : List Cell) → Lies T x (c ∷ cs) → next_number T x ≡ num c
+pub next_is : (T : Sheets) (x : Row) (c : Cell) (cs : List Cell) → Lies T x (c ∷ cs) → next_number T (sight x) ≡ num c
 next_is T x c cs l =
     let m = x.first + x.done in
     sym (ap (λ xs. get_or xs 0 0) l.left ∙ get_or-take (suc (length cs)) (drop m T.slots) 0 0 (omega arith) ∙ get_or-drop m T.slots 0 0 ∙ ap (λ k. get_or T.slots k 0) (add-zero m))
@@ -257,17 +258,17 @@ values_step T start letters x (TUPLE n) c cs e v = tt
 
 module _ (T : Sheets) (start : ℕ) (x : Row) (ask : Ask) where
   -- hearing the next value stays within the slots, and the value fits the question
-  pub hear_safe : (cs : List Cell) → Values T start x (asks ask) cs → x.done + length cs ≡ x.count → T.taken ≤ length T.slots → HearSafe T x (question_of ask)
+  pub hear_safe : (cs : List Cell) → Values T start x (asks ask) cs → x.done + length cs ≡ x.count → T.taken ≤ length T.slots → HearSafe T (sight x) (question_of ask)
   hear_safe cs v n room = record { left = omega arith; stands = λ l. go ask v l }
     where
       inside : Lies T x cs → x.done < x.count → x.first + x.done < length T.slots
       inside s l = omega (arith, s.within)
 
-      fits : (top : ℕ) (ds : List Cell) → Lies T x ds → AllByRecursion (λ c. num c < top) ds → x.done + length ds ≡ x.count → x.done < x.count → next_number T x < top
+      fits : (top : ℕ) (ds : List Cell) → Lies T x ds → AllByRecursion (λ c. num c < top) ds → x.done + length ds ≡ x.count → x.done < x.count → next_number T (sight x) < top
       fits top [] s b m l = absurd (omega arith)
       fits top (d ∷ ds) s b m l = omega (arith, next_is T x d ds s, b.0)
 
-      go : (b : Ask) → Values T start x (asks b) cs → x.done < x.count → Stands T x (question_of b)
+      go : (b : Ask) → Values T start x (asks b) cs → x.done < x.count → Stands T (sight x) (question_of b)
       go (scalar? k) w l = (inside w.0 l, fits (2 ^ width k) cs w.0 w.1 n l)
       go text? w l = inside w.0 l
       go option? w l = inside w.0 l
@@ -277,11 +278,11 @@ module _ (T : Sheets) (start : ℕ) (x : Row) (ask : Ask) where
       go (tuple? m) w l = tt
 
   -- it is the next of the cells that are left
-  pub heard_in : (cs : List Cell) → Values T start x (asks ask) cs → x.done + length cs ≡ x.count → HeardIn T x ask cs
+  pub heard_in : (cs : List Cell) → Values T start x (asks ask) cs → x.done + length cs ≡ x.count → HeardIn T (sight x) ask cs
   heard_in [] v n = omega arith
   heard_in (c ∷ cs) v n = (omega arith, go ask v)
     where
-      go : (b : Ask) → Values T start x (asks b) (c ∷ cs) → Sized b c (next_number T x)
+      go : (b : Ask) → Values T start x (asks b) (c ∷ cs) → Sized b c (next_number T (sight x))
       go (scalar? k) w = sym (next_is T x c cs w.0)
       go text? w = sym (next_is T x c cs w.0 ∙ w.3.0)
       go option? w = sym (next_is T x c cs w.0)

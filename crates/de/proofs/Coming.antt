@@ -12,12 +12,11 @@ use Rattle.document.specs.Nodes.{Path}
 use Rattle.document.specs.Reader.{Store, letter_count}
 use Rattle.nodes.specs.Marks.{mark_of, family_of}
 use Rattle.de.specs.declared.records.Node.{Node as Row}
-use Rattle.de.specs.declared.view.View.{View}
 use Rattle.de.specs.declared.columns.Gain.{Gain}
 use Rattle.de.specs.Columns.{left_at, usable, lengths_of, Stored}
 use Rattle.de.specs.Moves.{Sheets, advanced}
 use Rattle.de.specs.Reads.{Lies, Values, Reads}
-use Rattle.de.specs.Viewed.{spot_of, found, Finds}
+use Rattle.de.specs.Viewed.{View, spot_of, found, Finds}
 use Rattle.de.proofs.FirstTaking.{Came, first_text}
 use Rattle.de.proofs.Seeing.{reslotted}
 

@@ -17,7 +17,6 @@ use Rattle.document.specs.Places.{Place, too_many}
 use Rattle.document.specs.Reader.{Ask, asks, Node, fresh, ready, Store, taken, found as found_there, look, pick}
 use Rattle.nodes.specs.Homes.{Home}
 use Rattle.nodes.proofs.Homes.{home-more}
-use Rattle.de.specs.declared.view.View.{View}
 use Rattle.de.specs.declared.heard.Heard.{Heard}
 use Rattle.de.specs.declared.store.Tables.{Tables}
 use Rattle.de.specs.Moves.{Sheets, sheets, node, advanced, lacks_nodes, lacks_child, branch_in}
@@ -25,7 +24,7 @@ use Rattle.de.specs.Asked.{opens_place, branching, letters_of}
 use Rattle.de.specs.Answered.{question_of}
 use Rattle.de.specs.Reads.{columns_read, Values, Kept, Reads}
 use Rattle.de.specs.Served.{Spared, Readable, Replied, Consulted}
-use Rattle.de.specs.Viewed.{LookSafe, Looks, spot_of, reached}
+use Rattle.de.specs.Viewed.{View, sight, LookSafe, Looks, spot_of, reached}
 use Rattle.de.specs.Taken.{taken_in, branched, branch_then, opened_at, TakeSafe, IsNew, IsIndex, BranchSafe}
 use Rattle.de.specs.Hearing.{HearSafe, HeardIn, Heard as HeardAs}
 use Rattle.de.proofs.Growing.{linked-tail}
@@ -107,7 +106,7 @@ pub record Looked (col : Meaning) (input : List ℕ) (T U : Sheets) (r : ℕ) (q
 -- .. and once its next value was heard
 pub record Listened (col : Meaning) (input : List ℕ) (T U : Sheets) (r : ℕ) (q : Question) (v : View) (told : Result Answer Refusal) : Type 0 where
   pub looked : Looked col input T U r q (Ok v)
-  pub hears : (a : Ask) (cs : List Cell) → q ≡ question_of a → HeardIn U v.node a cs → HeardAs a cs v.node.text told
+  pub hears : (a : Ask) (cs : List Cell) → q ≡ question_of a → HeardIn U (sight v.node) a cs → HeardAs a cs v.node.text told
 
 -- ---- looking
 
@@ -132,10 +131,10 @@ module _ {col : Meaning} {input : List ℕ} {T U : Sheets} {r : ℕ} {q : Questi
       (cs, st, there, subst (λ X. Seen X ps input S st r p (asks a) v cs) (sym (spared_is T U L.spares)) seen)
 
   -- hearing what was found is safe
-  pub hear_safely : Readable input T r → (a : Ask) → q ≡ question_of a → HearSafe U v.node q
-  hear_safely readable a qa = ∥∥₁_elim readable (hear-prop U v.node q) (λ (ps, S, p, h, home).
+  pub hear_safely : Readable input T r → (a : Ask) → q ≡ question_of a → HearSafe U (sight v.node) q
+  hear_safely readable a qa = ∥∥₁_elim readable (hear-prop U (sight v.node) q) (λ (ps, S, p, h, home).
       let (cs, st, there, seen) = found_seen ps S p a h home qa in
-      subst (HearSafe U v.node) (sym qa) (hear_safe_at _ _ _ (hear_safe (advanced (reached (spot_of U) v.gain).taken (reached (spot_of U) v.gain).place 0 U) (st.texts p) v.node a cs seen.values seen.left (omega (arith, seen.usable)))))
+      subst (HearSafe U (sight v.node)) (sym qa) (hear_safe_at _ _ _ (hear_safe (advanced (reached (spot_of U) v.gain).taken (reached (spot_of U) v.gain).place 0 U) (st.texts p) v.node a cs seen.values seen.left (omega (arith, seen.usable)))))
 
 -- ---- hearing
 

@@ -14,9 +14,9 @@ use Rattle.nodes.specs.Homes.{Home}
 use Rattle.nodes.specs.Placed.{Opens}
 use Rattle.nodes.proofs.Homes.{home-more, home-new}
 use Rattle.de.specs.declared.records.Node.{Node as Row}
-use Rattle.de.specs.declared.view.View.{View}
 use Rattle.de.specs.declared.heard.Heard.{Heard}
 use Rattle.de.specs.Moves.{Sheets, node, lacks_nodes, child_of, branch_in, spawned}
+use Rattle.de.specs.Viewed.{View}
 use Rattle.de.specs.Asked.{opens_place, branching, letters_of}
 use Rattle.de.specs.Answered.{Answers, Within, Worthy, question_of}
 use Rattle.de.specs.Reads.{Values, Kept, Reads}

@@ -8,6 +8,7 @@ use Rattle.document.specs.Calls.{Kind, SCALAR, TEXT, SEQ, MAP, ENUM, UNIT, TUPLE
 use Rattle.document.specs.Nodes.{root}
 use Rattle.document.specs.Reader.{Ask, scalar?, text?, option?, variant?, seq?, map?, tuple?, asks, worth, worth_of, child_of as child_at, taken}
 use Rattle.de.specs.declared.records.Node.{Node as Row}
+use Rattle.de.specs.declared.view.Sight.{Sight}
 use Rattle.de.specs.Moves.{Sheets, advanced}
 use Rattle.de.specs.Asked.{branching}
 use Rattle.de.specs.Answered.{Answers}
@@ -45,7 +46,7 @@ index_fits T start x a c cs w y place worths ans v enum i e = go a enum v (worth
     go (tuple? n) is u s = let z = bare (tuple n) s in cc
 
 -- hearing looks at the slots alone
-pub hear_safe_at : (U : Sheets) (taken place : ℕ) {x : Row} {q : Question} → HearSafe (advanced taken place 0 U) x q → HearSafe U x q
+pub hear_safe_at : (U : Sheets) (taken place : ℕ) {x : Sight} {q : Question} → HearSafe (advanced taken place 0 U) x q → HearSafe U x q
 hear_safe_at U taken place {x} {q} h = record { left = h.left; stands = λ l. go q (h.stands l) }
   where
     go : (q : Question) → Stands (advanced taken place 0 U) x q → Stands U x q

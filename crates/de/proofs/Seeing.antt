@@ -11,12 +11,11 @@ use Rattle.document.specs.Records.{brought}
 use Rattle.document.specs.Reader.{fresh, ready, Store, kin, taken, opened}
 use Rattle.nodes.specs.Marks.{mark_of, family_of}
 use Rattle.nodes.specs.Homes.{Home}
-use Rattle.de.specs.declared.view.View.{View}
 use Rattle.de.specs.declared.columns.Gain.{Gain}
 use Rattle.de.specs.Moves.{Sheets, node, advanced}
 use Rattle.de.specs.Reads.{Values, Kept, Reads}
 use Rattle.de.specs.Served.{Spared}
-use Rattle.de.specs.Viewed.{spot_of, known, found, reached, Finds}
+use Rattle.de.specs.Viewed.{View, spot_of, known, found, reached, Finds}
 use Rattle.de.specs.Taken.{stepped, taken_in}
 use Rattle.de.proofs.Keeping.{GoesOn, values_on, reads_spared}
 use Rattle.de.proofs.Kin.{kin_values, kin_child}

@@ -3,8 +3,8 @@ use Rattle.std.proofs.Common.{◌≡◌, ℕ, Bool, true, false, cond, eqb, leng
 use Rattle.std.proofs.Math.Nat.{ℕ_set}
 use Rattle.std.specs.declared.option.Option.TheVariants as options
 use Rattle.nodes.specs.Marks.{family_of}
-use Rattle.de.specs.declared.view.View.{View}
 use Rattle.de.specs.Moves.{Sheets, node, spawned, grown, replaced, advanced}
+use Rattle.de.specs.Viewed.{View}
 use Rattle.de.specs.Served.{Spared, SameLengths}
 use Rattle.de.specs.declared.records.Node.{Node}
 use Rattle.de.specs.declared.columns.Gain.{Gain}

@@ -159,8 +159,11 @@ module _ (col : Meaning) (input : List ℕ) (old new : Desk) (R : Reading) (S : 
   started : (q : Question) (res : Result Heard Refusal) → below ≡ [] → Took col input q (is_deep old) old new res begins → Stepped input old new (served col R.store root (closing ∷ []) q) res
   unfolding Responded
   started q res none_below (x, is, responded, places) =
-      go (served col R.store root (closing ∷ []) q) (responded S.nodes R.store root (closing ∷ []) S.reads S.reads.linked.first (omega arith) refl)
+      go (served col R.store root (closing ∷ []) q) (responded S.nodes R.store root (closing ∷ []) S.reads S.reads.linked.first (omega arith) not_deep)
     where
+      not_deep : eqb old.places.depth 32 ≡ false
+      not_deep = ne_eqb old.places.depth 32 (λ e. absurd (omega (arith, e, ap length none_below, length-levels old.places.table (old.places.depth - 1))))
+
       after : (y : Result Heard Refusal) → x ≡ y → new.places ≡ turned old.places (begun (top old.places) y)
       after y e = places ∙ ap (λ z. turned old.places (begun (top old.places) z)) e
 

@@ -4,15 +4,14 @@ use native.Mathlib.Bridge.{le_prop}
 use Rattle.std.specs.declared.option.Option.TheVariants as options
 use Rattle.document.specs.declared.questions.Question.{Question}
 use Rattle.document.specs.declared.questions.Question.TheVariants as questions
-use Rattle.de.specs.declared.records.Node.{Node as Row}
-use Rattle.de.specs.declared.view.View.{View}
+use Rattle.de.specs.declared.view.Sight.{Sight}
 use Rattle.de.specs.Moves.{Sheets}
-use Rattle.de.specs.Viewed.{LookSafe}
+use Rattle.de.specs.Viewed.{View, LookSafe}
 use Rattle.de.specs.Taken.{TakeSafe, IsIndex, BranchSafe}
 use Rattle.de.specs.Hearing.{Stands, HearSafe}
 
 -- that the next value stands in the slots
-stands-prop : (T : Sheets) (x : Row) (q : Question) → IsProp (Stands T x q)
+stands-prop : (T : Sheets) (x : Sight) (q : Question) → IsProp (Stands T x q)
 stands-prop T x (questions.Scalar k) a b = λ i. (le_prop a.0 b.0 i, le_prop a.1 b.1 i)
 stands-prop T x questions.Text a b = le_prop a b
 stands-prop T x questions.Unit a b = refl
@@ -24,7 +23,7 @@ stands-prop T x (questions.Tuple n) a b = refl
 stands-prop T x questions.End a b = refl
 
 -- what hearing asks
-pub hear-prop : (T : Sheets) (x : Row) (q : Question) → IsProp (HearSafe T x q)
+pub hear-prop : (T : Sheets) (x : Sight) (q : Question) → IsProp (HearSafe T x q)
 hear-prop T x q a b = λ i. record { left = le_prop a.left b.left i; stands = λ l. stands-prop T x q (a.stands l) (b.stands l) i }
 
 -- what looking asks

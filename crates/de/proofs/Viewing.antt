@@ -1,6 +1,7 @@
 -- Looking at a record finds its node as the definitions do.
-use Rattle.std.proofs.Common.{◌≡◌, ℕ, ◌+◌, ◌≤◌, Bool, true, false, cond, not, leb, List, length, min, Ok, Err, Result, sym, refl, ap, ◌∙◌, subst, ap₂, inl, inr, arith}
+use Rattle.std.proofs.Common.{◌≡◌, ℕ, ◌+◌, ◌≤◌, Bool, true, false, cond, not, leb, List, length, min, Option, Ok, Err, Result, sym, refl, ap, ◌∙◌, subst, ap₂, inl, inr, arith}
 use Rattle.std.proofs.lemmas.Bool.{ne_eqb, eq-eqb, lt-ltb, le-ltb, le-leb, lt-leb, ltb-false, cases_lt}
+use Rattle.std.specs.declared.option.Option.TheVariants as options
 use Rattle.column.specs.Meaning.{Meaning}
 use Rattle.document.specs.declared.refusals.Refusal.{Refusal}
 use Rattle.document.specs.declared.refusals.Refusal.TheVariants as refusals
@@ -9,16 +10,17 @@ use Rattle.document.specs.Nodes.{Path}
 use Rattle.document.specs.Fetch.{Supply, supply, Fetched, fetched, denied, fetch}
 use Rattle.document.specs.Tables.{takes}
 use Rattle.document.specs.Reader.{Node, fresh, ready, Store, kin, Look, found as found_there, lost, newly, looked, look, opened}
+use Rattle.nodes.specs.declared.marks.Mark.{Mark}
 use Rattle.nodes.specs.Marks.{mark_number, mark_of, family_of}
 use Rattle.nodes.specs.Homes.{Home}
 use Rattle.nodes.proofs.Kin.{mark-number}
 use Rattle.nodes.proofs.Families.{family-takes}
 use Rattle.de.specs.declared.records.Node.{Node as Row}
-use Rattle.de.specs.declared.view.View.{View}
+use Rattle.de.specs.declared.columns.Gain.{Gain}
 use Rattle.de.specs.Columns.{usable, left_at}
-use Rattle.de.specs.Moves.{Sheets, node, is_fresh, lacks_nodes}
+use Rattle.de.specs.Moves.{Sheets, node, branch_in, is_fresh, lacks_nodes}
 use Rattle.de.specs.Reads.{Kept, Reads}
-use Rattle.de.specs.Viewed.{spot_of, known, Finds, Answers, LooksAs, Looks}
+use Rattle.de.specs.Viewed.{View, viewed, spot_of, known, Finds, Answers, LooksAs, Looks}
 
 -- A node as a question finds it, with its cells and the store then: it was read before; or its columns were read just now.
 pub data Viewed (col : Meaning) (input : List ℕ) (T : Sheets) (slots : List ℕ) (S : Store) (x : Row) (p : Path) (K : Kind) (v : View) (cs : List Cell) (st : Store) : Type 0 where
@@ -84,3 +86,10 @@ module _ (col : Meaning) (input : List ℕ) (T : Sheets) (slots : List ℕ) (ps 
       go (ready H cs) e (m, n, v, ch) =
           let old : is_fresh (node T r) ≡ false = ne_eqb _ _ (λ z. omega (arith, mark-number H, ap mark_number m)) in
           of_kin H cs res e (subst (λ b. LooksAs col input T slots K (node T r) b (lacks_nodes T (family_of (mark_of K))) res) old is H m)
+
+-- a node's children are as they are in its record
+pub branch_viewed : (T : Sheets) (r : ℕ) (m : Mark) (g : Option Gain) (o : Option ℕ) → branch_in T (node T r) o ≡ branch_in T (viewed T r m g).node o
+branch_viewed T r m options.None options.None = refl
+branch_viewed T r m options.None (options.Some i) = refl
+branch_viewed T r m (options.Some g) options.None = refl
+branch_viewed T r m (options.Some g) (options.Some i) = refl

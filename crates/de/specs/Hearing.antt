@@ -7,17 +7,17 @@ use Rattle.document.specs.declared.questions.Question.{Question}
 use Rattle.document.specs.declared.questions.Question.TheVariants as questions
 use Rattle.document.specs.Calls.{Cell}
 use Rattle.document.specs.Reader.{Ask, worth_of}
-use Rattle.de.specs.declared.records.Node.{Node}
+use Rattle.de.specs.declared.view.Sight.{Sight}
 use Rattle.de.specs.Moves.{Sheets}
 use Rattle.de.specs.Asked.{Fitting, Sized}
 use Rattle.de.specs.Answered.{Worthy}
 
 -- the number of the node's next value
-abbrev pub next_number : Sheets → Node → ℕ
+abbrev pub next_number : Sheets → Sight → ℕ
 next_number T x = slice_index T.slots (x.first + x.done)
 
 -- the next value stands in the slots and fits the question
-abbrev pub Stands : Sheets → Node → Question → Type 0
+abbrev pub Stands : Sheets → Sight → Question → Type 0
 Stands T x (questions.Scalar k) = (x.first + x.done < length T.slots) × Fitting (questions.Scalar k) (next_number T x)
 Stands T x questions.Text = x.first + x.done < length T.slots
 Stands T x questions.Unit = Unit {0}
@@ -29,12 +29,12 @@ Stands T x (questions.Tuple n) = Unit {0}
 Stands T x questions.End = Unit {0}
 
 -- what hearing asks: bounds alone
-pub record HearSafe (T : Sheets) (x : Node) (q : Question) : Type 0 where
+pub record HearSafe (T : Sheets) (x : Sight) (q : Question) : Type 0 where
   pub left : x.done ≤ x.count
   pub stands : x.done < x.count → Stands T x q
 
 -- these cells of the node are left
-abbrev pub HeardIn : Sheets → Node → Ask → List Cell → Type 0
+abbrev pub HeardIn : Sheets → Sight → Ask → List Cell → Type 0
 HeardIn T x a [] = x.done ≡ x.count
 HeardIn T x a (c ∷ cs) = (x.done < x.count) × Sized a c (next_number T x)
 

@@ -1,5 +1,5 @@
 -- One question, as the code goes about it: by the innermost place's state.
-use Rattle.std.specs.Prelude.{◌≡◌, ℕ, Bool, false, cond, List, Ok, Err, Result, ◌==◌}
+use Rattle.std.specs.Prelude.{◌≡◌, ℕ, Bool, cond, List, Ok, Err, Result, ◌==◌}
 use Rattle.std.specs.declared.option.Option.TheVariants as options
 use Rattle.column.specs.Meaning.{Meaning}
 use Rattle.document.specs.declared.refusals.Refusal.{Refusal}
@@ -75,5 +75,5 @@ abbrev pub Took : Meaning → List ℕ → Question → Bool → Desk → Desk �
 Took col input q deep old new res (declines e) = (res ≡ Err e) × (new.tables ≡ old.tables) × (new.places ≡ turned old.places (top old.places))
 Took col input q deep old new res closes = (res ≡ Ok (record { answer = answers.End; opened = options.None })) × (new.tables ≡ old.tables) × (new.places ≡ turned old.places Closing)
 Took col input q deep old new res begins =
-    (x : Result Heard Refusal) × (res ≡ shut x) × Responded col input 1 q false (sheets old.tables) (sheets new.tables) x × (new.places ≡ turned old.places (begun (top old.places) x))
+    (x : Result Heard Refusal) × (res ≡ shut x) × Responded col input 1 q deep (sheets old.tables) (sheets new.tables) x × (new.places ≡ turned old.places (begun (top old.places) x))
 Took col input q deep old new res (asks r t) = Responded col input r q deep (sheets old.tables) (sheets new.tables) res × (new.places ≡ turned old.places (counted (top old.places) t res))

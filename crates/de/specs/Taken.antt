@@ -14,9 +14,9 @@ use Rattle.nodes.specs.declared.places.State.TheVariants.{Items, Keys, Fields, L
 use Rattle.nodes.specs.Marks.{family_of}
 use Rattle.de.specs.declared.records.Node.{Node}
 use Rattle.de.specs.declared.columns.Gain.{Gain}
-use Rattle.de.specs.declared.view.View.{View}
 use Rattle.de.specs.Moves.{Sheets, node, spawned, grown, replaced, advanced}
 use Rattle.de.specs.Reads.{all_of}
+use Rattle.de.specs.Viewed.{View}
 
 -- the number of columns of a node with this mark
 abbrev pub columns_with : Mark → ℕ

@@ -12,7 +12,7 @@ use Rattle.nodes.specs.Marks.{mark_of, family_of}
 use Rattle.de.specs.declared.records.Node.{Node}
 use Rattle.de.specs.declared.columns.Spot.{Spot}
 use Rattle.de.specs.declared.columns.Gain.{Gain}
-use Rattle.de.specs.declared.view.View.{View}
+use Rattle.de.specs.declared.view.Sight.{Sight}
 use Rattle.de.specs.Columns.{usable, Within, left_at, CellsStored}
 use Rattle.de.specs.Moves.{Sheets, node, is_fresh, lacks_nodes}
 
@@ -31,6 +31,11 @@ pub record LookSafe (input : List ℕ) (T : Sheets) (r : ℕ) : Type 0 where
 abbrev pub remarked : Mark → Node → Node
 remarked m x = record x { mark = m }
 
+-- a node whose columns are read: its record, and what reading them came to if that was just now
+pub record View : Type 0 where
+  pub node : Node
+  pub gain : Option Gain
+
 -- a node that was read before, as this kind now
 abbrev pub known : Mark → Node → View
 known m x = record { node = remarked m x; gain = options.None }
@@ -42,6 +47,20 @@ found T m x g =
       node = record x { mark = m; done = 0; first = T.taken; text = g.text };
       gain = options.Some g;
     }
+
+-- the record r with this mark, once its columns are read, which came to this if it was just now
+abbrev pub viewed : Sheets → ℕ → Mark → Option Gain → View
+viewed T r m options.None = known m (node T r)
+viewed T r m (options.Some g) = found T m (node T r) g
+
+-- .. if it was not refused
+abbrev pub views : Sheets → ℕ → Mark → Result (Option Gain) Refusal → Result View Refusal
+views T r m (Ok g) = Ok (viewed T r m g)
+views T r m (Err e) = Err e
+
+-- what is heard of a record
+abbrev pub sight : Node → Sight
+sight x = record { count = x.count; done = x.done; first = x.first; text = x.text }
 
 -- how far reading came then: nowhere if the node was read before
 abbrev pub reached : Spot → Option Gain → Spot

@@ -10,8 +10,8 @@ ghost use Rattle.de.specs.Hearing.{HearSafe, HeardIn, Heard as heard};
 
 use crate::columns::Source;
 use crate::heard::{Heard, index_of, letters_of, mark_of, opens_any, opens_place, worth};
-use crate::records::Node;
 use crate::store::Tables;
+use crate::view::Sight;
 use column::interface::Column;
 use document::questions::{Answer, Question};
 use document::refusals::Refusal;
@@ -19,18 +19,18 @@ use nodes::places::State;
 
 impl Tables {
     /// The answer that the node's next value makes.
-    fn hear(&self, node: Node, question: Question) -> Result<Answer, Refusal>
-        requires { HearSafe (sheets self.now) node question }
-        ensures { (a : Ask) (cs : List Cell) → question ≡ question_of a → HeardIn (sheets self.now) node a cs → heard a cs node.text result }
+    fn hear(&self, seen: Sight, question: Question) -> Result<Answer, Refusal>
+        requires { HearSafe (sheets self.now) seen question }
+        ensures { (a : Ask) (cs : List Cell) → question ≡ question_of a → HeardIn (sheets self.now) seen a cs → heard a cs seen.text result }
     {
-        if node.done == node.count {
+        if seen.done == seen.count {
             return Err(Refusal::Count);
         }
         let number = match question {
             Question::Tuple(_) | Question::Unit | Question::End => 0,
-            _ => self.slots[node.first + node.done as usize],
+            _ => self.slots[seen.first + seen.done as usize],
         };
-        worth(question, number, node.text)
+        worth(question, number, seen.text)
     }
 
     /// Whether an index is new, and there is no record for its child.
@@ -53,17 +53,19 @@ impl Tables {
         requires rooted { nat_lt 1 (vec_len self.old.nodes) ≡ true }
         ensures { Consulted (C.Column.meaning source.now.kind.now) source.now.input.now r question deep (sheets self.old) (sheets self.new) result }
     {
-        let view = self.look(source, r, mark_of(question))?;
-        let answer = self.hear(view.node, question)?;
+        let mark = mark_of(question);
+        let gain = self.look(source, r, mark)?;
+        let seen = self.sight(r, gain);
+        let answer = self.hear(seen, question)?;
         if deep && opens_place(answer) {
             return Err(Refusal::Depth);
         }
         let index = index_of(answer);
-        let child = self.branch(view.node, index);
+        let child = self.branch(r, index);
         if self.lacks_child(child, index) {
             return Err(Refusal::Nodes);
         }
-        self.take_in(r, view, letters_of(answer));
+        self.take_in(r, mark, seen, gain, letters_of(answer));
         let child = self.branch_out(r, child, index);
         let opened = self.opened(r, child, question, answer);
         Ok(Heard { answer, opened })

@@ -2,13 +2,14 @@
 
 ghost use Rattle.std.specs.Prelude.{◌≡◌, ◌+◌, ◌<◌, ◌≤◌, vec_len};
 ghost use Rattle.de.specs.Moves.{sheets, node, spawned, grown, branch_in};
+ghost use Rattle.de.specs.Viewed.{viewed, sight};
 ghost use Rattle.de.specs.Taken.{GrowSafe, TakeSafe, BranchSafe, columns_with, children_with, taken_in, branched, branch_then, opened_at, occurrences};
 
 use crate::columns::Gain;
 use crate::histogram::histogram;
 use crate::records::Node;
 use crate::store::Tables;
-use crate::view::View;
+use crate::view::Sight;
 use document::questions::{Answer, Question};
 use nodes::children::{add_child, find};
 use nodes::marks::Mark;
@@ -26,12 +27,12 @@ fn columns_of(mark: Mark) -> u32
     }
 }
 
-/// How many values each child has that comes with the kind of a node with this sum of lengths.
-fn child_count(node: Node, sum: u64) -> u64
-    ensures { result ≡ children_with node.mark node.count sum }
+/// How many values each child has that comes with the kind of a node with so many values, and with this sum of lengths.
+fn child_count(mark: Mark, count: u64, sum: u64) -> u64
+    ensures { result ≡ children_with mark count sum }
 {
-    match node.mark {
-        Mark::Tuple(_) => node.count,
+    match mark {
+        Mark::Tuple(_) => count,
         _ => sum,
     }
 }
@@ -61,27 +62,39 @@ impl Tables {
         }
     }
 
-    /// The node's next value is answered, with so many text bytes. Where its columns were read just now, the tables are used so far, and the children come that its kind brings.
-    pub(crate) fn take_in(&mut self, r: usize, view: View, letters: usize)
-        requires { TakeSafe (sheets self.old) r view letters }
-        ensures { sheets self.new ≡ taken_in r view letters (sheets self.old) }
+    /// The next value of the node at the record r is answered, as one of this kind, with so many text bytes. Where its columns were read just now, which came to this,
+    /// the tables are used so far, and the children come that its kind brings.
+    pub(crate) fn take_in(
+        &mut self,
+        r: usize,
+        mark: Mark,
+        seen: Sight,
+        gain: Option<Gain>,
+        letters: usize,
+    )
+        requires safe { TakeSafe (sheets self.old) r (viewed (sheets self.old) r mark gain) letters }
+        requires sight { seen ≡ sight (viewed (sheets self.old) r mark gain).node }
+        ensures { sheets self.new ≡ taken_in r (viewed (sheets self.old) r mark gain) letters (sheets self.old) }
     {
-        let View { mut node, gain } = view;
-        node.done += 1;
-        node.text += letters;
-        self.nodes[r] = node;
+        let node = &mut self.nodes[r];
+        node.mark = mark;
+        node.done = seen.done + 1;
+        node.first = seen.first;
+        node.text = seen.text + letters;
         if let Some(Gain { spot, sum, .. }) = gain {
             self.spot = spot;
-            self.columns += columns_of(node.mark);
-            self.grow(r, node.mark.family(), child_count(node, sum));
+            self.columns += columns_of(mark);
+            self.grow(r, mark.family(), child_count(mark, seen.count, sum));
         }
     }
 
-    /// The record of the child with this index, 0 where there is none, or no index.
-    pub(crate) fn branch(&self, node: Node, index: Option<u32>) -> usize
-        ensures { result ≡ branch_in (sheets self.now) node index }
+    /// The record of the child of r with this index, 0 where there is none, or no index.
+    pub(crate) fn branch(&self, r: usize, index: Option<u32>) -> usize
+        requires { r < vec_len self.now.nodes }
+        ensures { result ≡ branch_in (sheets self.now) (node (sheets self.now) r) index }
     {
-        index.map_or(0, |i| find(&self.nodes, node.children, i))
+        let children = self.nodes[r].children;
+        index.map_or(0, |i| find(&self.nodes, children, i))
     }
 
     /// How many of the node's values are this index.

@@ -1,25 +1,26 @@
 //! A node as a question finds it: its columns are read where they were not read yet.
 
-ghost use Rattle.std.specs.Prelude.{◌≡◌};
+ghost use Rattle.std.specs.Prelude.{◌≡◌, ◌<◌, vec_len};
 ghost use Rattle.document.specs.Calls.{Kind};
 ghost use Rattle.nodes.specs.Marks.{mark_of as mark_of_kind};
 ghost use Rattle.de.specs.Moves.{sheets, node, lacks_nodes};
 ghost use Rattle.de.specs.Served.{Spared};
-ghost use Rattle.de.specs.Viewed.{LookSafe, Looks};
+ghost use Rattle.de.specs.Viewed.{LookSafe, Looks, viewed, views, sight};
 
 use crate::columns::{Gain, Source};
-use crate::records::Node;
 use crate::store::Tables;
 use column::interface::Column;
 use document::limits::MOST_NODES;
 use document::refusals::Refusal;
 use nodes::marks::Mark;
 
-/// A node whose columns are read: its record, and what reading them came to if that was just now.
+/// What is heard of a node whose columns are read: how many values it has and how many were answered, where the first of them stands, and where its next text does.
 #[derive(Clone, Copy)]
-pub(crate) struct View {
-    pub(crate) node: Node,
-    pub(crate) gain: Option<Gain>,
+pub(crate) struct Sight {
+    pub(crate) count: u64,
+    pub(crate) done: u64,
+    pub(crate) first: usize,
+    pub(crate) text: usize,
 }
 
 impl Tables {
@@ -30,37 +31,52 @@ impl Tables {
         self.used.saturating_add(more as usize) > self.nodes.len().min(MOST_NODES)
     }
 
-    /// The node at the record r, as one of this kind. Its columns go to slots that are not taken; all else is left as it is.
+    /// Reads the columns of the node at the record r, as one of this kind, into slots that are not taken, and answers what that came to; none where they were read before.
+    /// All else is left as it is.
     pub(crate) fn look<C: Column>(
         &mut self,
         source: &Source<'_, C>,
         r: usize,
         mark: Mark,
-    ) -> Result<View, Refusal>
+    ) -> Result<Option<Gain>, Refusal>
         requires { LookSafe source.now.input.now (sheets self.old) r }
         ensures spared { Spared (sheets self.old) (sheets self.new) }
-        ensures answer { (K : Kind) → mark ≡ mark_of_kind K → Looks (C.Column.meaning source.now.kind.now) source.now.input.now (sheets self.old) self.new.slots.items r K result }
+        ensures answer { (K : Kind) → mark ≡ mark_of_kind K → Looks (C.Column.meaning source.now.kind.now) source.now.input.now (sheets self.old) self.new.slots.items r K (views (sheets self.new) r mark result) }
     {
-        let mut node = self.nodes[r];
-        if node.mark != Mark::Unmarked {
-            if !node.mark.is_kin(mark) {
+        let known = &self.nodes[r];
+        if known.mark != Mark::Unmarked {
+            if !known.mark.is_kin(mark) {
                 return Err(Refusal::Kind);
             }
-            node.mark = mark;
-            return Ok(View { node, gain: None });
+            return Ok(None);
         }
         if self.lacks_nodes(mark.family()) {
             return Err(Refusal::Nodes);
         }
-        let spot = self.spot;
-        let gain = source.fetch(&mut self.slots, self.columns, mark, node.count, spot)?;
-        node.mark = mark;
-        node.done = 0;
-        node.first = spot.taken;
-        node.text = gain.text;
-        Ok(View {
-            node,
-            gain: Some(gain),
-        })
+        let count = self.nodes[r].count;
+        let gain = source.fetch(&mut self.slots, self.columns, mark, count, self.spot)?;
+        Ok(Some(gain))
+    }
+
+    /// The node at the record r, once its columns are read, which came to this.
+    pub(crate) fn sight(&self, r: usize, gain: Option<Gain>) -> Sight
+        requires { r < vec_len self.now.nodes }
+        ensures { (m : Mark) → result ≡ sight (viewed (sheets self.now) r m gain).node }
+    {
+        let node = &self.nodes[r];
+        match gain {
+            None => Sight {
+                count: node.count,
+                done: node.done,
+                first: node.first,
+                text: node.text,
+            },
+            Some(Gain { text, .. }) => Sight {
+                count: node.count,
+                done: 0,
+                first: self.spot.taken,
+                text,
+            },
+        }
     }
 }

@@ -16,7 +16,7 @@ use document::refusals::Refusal;
 use nodes::places::{MOST_OPEN, State};
 
 impl Desk {
-    /// The step: what the question does to the innermost place, and to the tables.
+    /// The step: which record the question asks, by the innermost place's state, and what the state is once that has answered.
     // Stays: one match on the place's state and the question, as the project's rule has it for the writer's and the reader's step alike.
     fn take<C: Column>(
         &mut self,
@@ -30,7 +30,7 @@ impl Desk {
     {
         let deep = self.places.depth == MOST_OPEN;
         let place = &mut self.places.table[self.places.depth - 1];
-        match (&mut place.state, question) {
+        let (record, next) = match (place.state, question) {
             (
                 State::Items { left: 0, .. }
                 | State::Keys { left: 0, .. }
@@ -39,9 +39,9 @@ impl Desk {
                 Question::End,
             ) => {
                 place.state = State::Closing;
-                Ok(Heard::shut(Answer::End))
+                return Ok(Heard::shut(Answer::End));
             }
-            (_, Question::End) => Err(Refusal::Count),
+            (_, Question::End) => return Err(Refusal::Count),
             (
                 State::Items { left: 0, .. }
                 | State::Keys { left: 0, .. }
@@ -49,46 +49,35 @@ impl Desk {
                 | State::Lone { left: 0, .. }
                 | State::Closing,
                 _,
-            ) => Err(Refusal::Count),
-            (State::Root, _) => {
-                let heard = self.tables.respond(source, 1, question, false)?;
-                place.state = heard.opened.unwrap_or(State::Closing);
-                Ok(Heard::shut(heard.answer))
-            }
+            ) => return Err(Refusal::Count),
+            (State::Root, _) => (1, State::Root),
             (State::Items { node, left }, _) => {
-                let heard = self.tables.respond(source, *node, question, deep)?;
-                *left -= 1;
-                Ok(heard)
+                let left = left - 1;
+                (node, State::Items { node, left })
             }
             (State::Keys { node, left }, _) => {
-                let (node, left) = (*node, *left - 1);
-                let heard = self.tables.respond(source, node, question, deep)?;
-                place.state = State::Vals { node, left };
-                Ok(heard)
+                let left = left - 1;
+                (node, State::Vals { node, left })
             }
-            (State::Vals { node, left }, _) => {
-                let (node, left) = (*node, *left);
-                let heard = self.tables.respond(source, node + 1, question, deep)?;
-                place.state = State::Keys { node, left };
-                Ok(heard)
-            }
-            (State::Fields { node, left }, _) => {
-                let heard = self.tables.respond(source, *node, question, deep)?;
-                *node += 1;
-                *left -= 1;
-                Ok(heard)
+            (State::Vals { node, left }, _) => (node + 1, State::Keys { node, left }),
+            (State::Fields { node: field, left }, _) => {
+                let (node, left) = (field + 1, left - 1);
+                (field, State::Fields { node, left })
             }
             (State::Lone { node, left }, _) => {
-                let heard = self.tables.respond(source, *node, question, deep)?;
-                *left -= 1;
-                Ok(heard)
+                let left = left - 1;
+                (node, State::Lone { node, left })
             }
-            (State::One { node }, _) => {
-                let heard = self.tables.respond(source, *node, question, deep)?;
-                place.state = State::Closing;
-                Ok(heard)
-            }
+            (State::One { node }, _) => (node, State::Closing),
+        };
+        let heard = self.tables.respond(source, record, question, deep)?;
+        if let State::Root = next {
+            // the root's place gives way to the one that its value opens
+            place.state = heard.opened.unwrap_or(State::Closing);
+            return Ok(Heard::shut(heard.answer));
         }
+        place.state = next;
+        Ok(heard)
     }
 
     /// One question.
