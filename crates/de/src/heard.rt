@@ -34,6 +34,7 @@ impl Heard {
 
 /// The kind that a question asks for; `unit` and `end` ask nothing of a node.
 // Stays: from here on beside the writer's functions of these names, since questions and answers are other types than calls.
+#[inline(always)]
 pub(crate) fn mark_of(question: Question) -> Mark
     ensures { result ≡ marking question }
 {
@@ -49,6 +50,7 @@ pub(crate) fn mark_of(question: Question) -> Mark
 }
 
 /// Whether a question opens a place whatever the answer.
+#[inline(never)]
 pub(crate) fn opens_any(question: Question) -> bool
     ensures { result ≡ opens_any question }
 {
@@ -59,6 +61,7 @@ pub(crate) fn opens_any(question: Question) -> bool
 }
 
 /// Whether an answer opens a place.
+#[inline(always)]
 pub(crate) fn opens_place(answer: Answer) -> bool
     ensures { result ≡ opens_place answer }
 {
@@ -69,6 +72,7 @@ pub(crate) fn opens_place(answer: Answer) -> bool
 }
 
 /// The index whose child the value that follows stands at.
+#[inline(always)]
 pub(crate) fn index_of(answer: Answer) -> Option<u32>
     ensures { result ≡ branching answer }
 {
@@ -80,6 +84,7 @@ pub(crate) fn index_of(answer: Answer) -> Option<u32>
 }
 
 /// The number of bytes of a text, 0 of any other answer.
+#[inline(always)]
 pub(crate) fn letters_of(answer: Answer) -> usize
     ensures { result ≡ letters_of answer }
 {
@@ -100,6 +105,7 @@ fn sized(length: u64, no_size: bool) -> Result<u64, Refusal>
 }
 
 /// What a number in the slots is worth to a question; `place` is where the node's next text stands.
+#[inline(always)]
 pub(crate) fn worth(question: Question, number: u64, place: usize) -> Result<Answer, Refusal>
     requires { Fitting question number }
     ensures { (a : Ask) (c : Cell) → question ≡ question_of a → Sized a c number → Worthy (worth_of a c) place result }

@@ -19,6 +19,7 @@ use nodes::places::State;
 
 impl Tables {
     /// The answer that the node's next value makes.
+    #[inline(always)]
     fn hear(&self, seen: Sight, question: Question) -> Result<Answer, Refusal>
         requires { HearSafe (sheets self.now) seen question }
         ensures { (a : Ask) (cs : List Cell) → question ≡ question_of a → HeardIn (sheets self.now) seen a cs → heard a cs seen.text result }
@@ -41,6 +42,8 @@ impl Tables {
     }
 
     /// A question that asks a value of the node at the record r; `deep` tells that no further place can be opened.
+    // Stays: `inline(always)`, here and in what it uses, so that each row of `respond` is compiled by itself, without the tests that its question leaves empty.
+    #[inline(always)]
     fn consult<C: Column>(
         &mut self,
         source: &Source<'_, C>,
@@ -91,11 +94,17 @@ impl Tables {
         match question {
             Question::Unit => Ok(Heard::shut(Answer::Unit)),
             Question::End => Err(Refusal::Count),
-            _ if question == Question::Tuple(1) => Ok(Heard {
+            Question::Tuple(1) => Ok(Heard {
                 answer: Answer::Tuple,
                 opened: Some(State::Lone { node: r, left: 1 }),
             }),
-            _ => self.consult(source, r, question, deep),
+            Question::Scalar(kind) => self.consult(source, r, Question::Scalar(kind), deep),
+            Question::Text => self.consult(source, r, Question::Text, deep),
+            Question::Option => self.consult(source, r, Question::Option, deep),
+            Question::Variant => self.consult(source, r, Question::Variant, deep),
+            Question::Seq { no_size } => self.consult(source, r, Question::Seq { no_size }, deep),
+            Question::Map { no_size } => self.consult(source, r, Question::Map { no_size }, deep),
+            Question::Tuple(n) => self.consult(source, r, Question::Tuple(n), deep),
         }
     }
 }

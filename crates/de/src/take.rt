@@ -64,6 +64,7 @@ impl Tables {
 
     /// The next value of the node at the record r is answered, as one of this kind, with so many text bytes. Where its columns were read just now, which came to this,
     /// the tables are used so far, and the children come that its kind brings.
+    #[inline(always)]
     pub(crate) fn take_in(
         &mut self,
         r: usize,
@@ -89,6 +90,7 @@ impl Tables {
     }
 
     /// The record of the child of r with this index, 0 where there is none, or no index.
+    #[inline(always)]
     pub(crate) fn branch(&self, r: usize, index: Option<u32>) -> usize
         requires { r < vec_len self.now.nodes }
         ensures { result ≡ branch_in (sheets self.now) (node (sheets self.now) r) index }
@@ -108,6 +110,7 @@ impl Tables {
     }
 
     /// A new index gets a record; answers the index's record.
+    #[inline(always)]
     pub(crate) fn branch_out(&mut self, r: usize, child: usize, index: Option<u32>) -> usize
         requires { BranchSafe (sheets self.old) r child index }
         ensures place { result ≡ branch_then child index (sheets self.old) }
@@ -124,6 +127,7 @@ impl Tables {
 
     /// The place that an answer at r opens; `child` is the record of its index's child.
     // Stays: beside the writer's, since an answer opens what it does by its question too; a type between them would add a match to each.
+    #[inline(always)]
     pub(crate) fn opened(
         &self,
         r: usize,

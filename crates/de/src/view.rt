@@ -33,6 +33,7 @@ impl Tables {
 
     /// Reads the columns of the node at the record r, as one of this kind, into slots that are not taken, and answers what that came to; none where they were read before.
     /// All else is left as it is.
+    #[inline(always)]
     pub(crate) fn look<C: Column>(
         &mut self,
         source: &Source<'_, C>,
@@ -59,6 +60,7 @@ impl Tables {
     }
 
     /// The node at the record r, once its columns are read, which came to this.
+    #[inline(always)]
     pub(crate) fn sight(&self, r: usize, gain: Option<Gain>) -> Sight
         requires { r < vec_len self.now.nodes }
         ensures { (m : Mark) → result ≡ sight (viewed (sheets self.now) r m gain).node }

@@ -1,8 +1,8 @@
-use Rattle.std.proofs.Common.{rules, ◌≡◌, true, false, ◌&&◌, length, arith}
+use Rattle.std.proofs.Common.{rules, ◌≡◌, true, false, ◌&&◌, length, refl, arith}
 use Rattle.std.proofs.lemmas.Bool.{lt-ltb, le-ltb}
 use Rattle.de.specs.Moves.{sheets}
 use Rattle.de.specs.Asked.{opens_any}
-use Rattle.de.proofs.Asking.{asks_of}
+use Rattle.document.specs.Reader.{scalar?, text?, option?, variant?, seq?, map?, tuple?}
 use Rattle.de.proofs.Responding.{responds_full, responds_rootless, responds_unit, responds_lone, responds_end, responds}
 use Rattle.de.proofs.store.Tables.respond.Goals as goal
 
@@ -19,9 +19,27 @@ returns-then-len-lt2 g c =
     responds_rootless (g.C.Column.meaning c.args.source.now.kind.now) c.args.source.now.input.now c.args.r c.args.question c.args.deep (sheets c.args.self.now) roomy
     (le-ltb 1 (length c.args.self.now.nodes.items) (omega (arith, c.len.ensures, c.args.self.now.nodes.ok.0)))
 
--- what is left asks a node
+-- the other questions ask a node
+pub consult-requires-in-Scalar-clause-asks : goal.consult-requires-in-Scalar-clause-asks
+consult-requires-in-Scalar-clause-asks g c = (scalar? _, refl)
+
+pub consult-requires-in-Text-clause-asks : goal.consult-requires-in-Text-clause-asks
+consult-requires-in-Text-clause-asks g c = (text?, refl)
+
+pub consult-requires-in-Option-clause-asks : goal.consult-requires-in-Option-clause-asks
+consult-requires-in-Option-clause-asks g c = (option?, refl)
+
+pub consult-requires-in-Variant-clause-asks : goal.consult-requires-in-Variant-clause-asks
+consult-requires-in-Variant-clause-asks g c = (variant?, refl)
+
+pub consult-requires-in-Seq-clause-asks : goal.consult-requires-in-Seq-clause-asks
+consult-requires-in-Seq-clause-asks g c = (seq? _, refl)
+
+pub consult-requires-in-Map-clause-asks : goal.consult-requires-in-Map-clause-asks
+consult-requires-in-Map-clause-asks g c = (map? _, refl)
+
 pub consult-requires-clause-asks : goal.consult-requires-clause-asks
-consult-requires-clause-asks g c = asks_of c.args.question c.in_default.not-Unit c.in_default.not-End
+consult-requires-clause-asks g c = (tuple? _, refl)
 
 -- a unit
 pub returns-in-Unit : goal.returns-in-Unit
@@ -32,8 +50,8 @@ returns-in-Unit g c =
     (lt-ltb 1 (length c.args.self.now.nodes.items) (omega (arith, c.len.ensures, c.args.self.now.nodes.ok.0))) c.in-Unit.is)
 
 -- a `tuple 1`
-pub returns-in_default : goal.returns-in_default
-returns-in_default g c =
+pub returns-in-Tuple-eq1 : goal.returns-in-Tuple-eq1
+returns-in-Tuple-eq1 g c =
     let roomy : (c.args.deep && opens_any c.args.question) ≡ false = search rules in
     responds_lone (g.C.Column.meaning c.args.source.now.kind.now) c.args.source.now.input.now c.args.r c.args.question c.args.deep (sheets c.args.self.now) roomy
     (lt-ltb 1 (length c.args.self.now.nodes.items) (omega (arith, c.len.ensures, c.args.self.now.nodes.ok.0))) (search rules)
@@ -46,10 +64,51 @@ returns-in-End g c =
     (lt-ltb 1 (length c.args.self.now.nodes.items) (omega (arith, c.len.ensures, c.args.self.now.nodes.ok.0))) c.in-End.is
 
 -- the node's value
-pub returns-in_default-2 : goal.returns-in_default-2
-returns-in_default-2 g c =
+pub returns-in-Scalar : goal.returns-in-Scalar
+returns-in-Scalar g c =
     let roomy : (c.args.deep && opens_any c.args.question) ≡ false = search rules in
-    let (a, is) = asks_of c.args.question c.in_default.not-Unit c.in_default.not-End in
     responds (g.C.Column.meaning c.args.source.now.kind.now) c.args.source.now.input.now c.args.r c.args.question c.args.deep (sheets c.args.self.now) roomy
-    (lt-ltb 1 (length c.args.self.now.nodes.items) (omega (arith, c.len.ensures, c.args.self.now.nodes.ok.0))) (sheets c.consult.new.self) c.consult.result a is
-    (search rules) c.consult.ensures
+    (lt-ltb 1 (length c.args.self.now.nodes.items) (omega (arith, c.len.ensures, c.args.self.now.nodes.ok.0))) (sheets c.consult-in-Scalar.new.self) c.consult-in-Scalar.result (scalar? _) c.in-Scalar.is
+    (search rules) (rw c.in-Scalar.is c.consult-in-Scalar.ensures)
+
+pub returns-in-Text : goal.returns-in-Text
+returns-in-Text g c =
+    let roomy : (c.args.deep && opens_any c.args.question) ≡ false = search rules in
+    responds (g.C.Column.meaning c.args.source.now.kind.now) c.args.source.now.input.now c.args.r c.args.question c.args.deep (sheets c.args.self.now) roomy
+    (lt-ltb 1 (length c.args.self.now.nodes.items) (omega (arith, c.len.ensures, c.args.self.now.nodes.ok.0))) (sheets c.consult-in-Text.new.self) c.consult-in-Text.result (text?) c.in-Text.is
+    (search rules) (rw c.in-Text.is c.consult-in-Text.ensures)
+
+pub returns-in-Option : goal.returns-in-Option
+returns-in-Option g c =
+    let roomy : (c.args.deep && opens_any c.args.question) ≡ false = search rules in
+    responds (g.C.Column.meaning c.args.source.now.kind.now) c.args.source.now.input.now c.args.r c.args.question c.args.deep (sheets c.args.self.now) roomy
+    (lt-ltb 1 (length c.args.self.now.nodes.items) (omega (arith, c.len.ensures, c.args.self.now.nodes.ok.0))) (sheets c.consult-in-Option.new.self) c.consult-in-Option.result (option?) c.in-Option.is
+    (search rules) (rw c.in-Option.is c.consult-in-Option.ensures)
+
+pub returns-in-Variant : goal.returns-in-Variant
+returns-in-Variant g c =
+    let roomy : (c.args.deep && opens_any c.args.question) ≡ false = search rules in
+    responds (g.C.Column.meaning c.args.source.now.kind.now) c.args.source.now.input.now c.args.r c.args.question c.args.deep (sheets c.args.self.now) roomy
+    (lt-ltb 1 (length c.args.self.now.nodes.items) (omega (arith, c.len.ensures, c.args.self.now.nodes.ok.0))) (sheets c.consult-in-Variant.new.self) c.consult-in-Variant.result (variant?) c.in-Variant.is
+    (search rules) (rw c.in-Variant.is c.consult-in-Variant.ensures)
+
+pub returns-in-Seq : goal.returns-in-Seq
+returns-in-Seq g c =
+    let roomy : (c.args.deep && opens_any c.args.question) ≡ false = search rules in
+    responds (g.C.Column.meaning c.args.source.now.kind.now) c.args.source.now.input.now c.args.r c.args.question c.args.deep (sheets c.args.self.now) roomy
+    (lt-ltb 1 (length c.args.self.now.nodes.items) (omega (arith, c.len.ensures, c.args.self.now.nodes.ok.0))) (sheets c.consult-in-Seq.new.self) c.consult-in-Seq.result (seq? _) c.in-Seq.is
+    (search rules) (rw c.in-Seq.is c.consult-in-Seq.ensures)
+
+pub returns-in-Map : goal.returns-in-Map
+returns-in-Map g c =
+    let roomy : (c.args.deep && opens_any c.args.question) ≡ false = search rules in
+    responds (g.C.Column.meaning c.args.source.now.kind.now) c.args.source.now.input.now c.args.r c.args.question c.args.deep (sheets c.args.self.now) roomy
+    (lt-ltb 1 (length c.args.self.now.nodes.items) (omega (arith, c.len.ensures, c.args.self.now.nodes.ok.0))) (sheets c.consult-in-Map.new.self) c.consult-in-Map.result (map? _) c.in-Map.is
+    (search rules) (rw c.in-Map.is c.consult-in-Map.ensures)
+
+pub returns-in-Tuple : goal.returns-in-Tuple
+returns-in-Tuple g c =
+    let roomy : (c.args.deep && opens_any c.args.question) ≡ false = search rules in
+    responds (g.C.Column.meaning c.args.source.now.kind.now) c.args.source.now.input.now c.args.r c.args.question c.args.deep (sheets c.args.self.now) roomy
+    (lt-ltb 1 (length c.args.self.now.nodes.items) (omega (arith, c.len.ensures, c.args.self.now.nodes.ok.0))) (sheets c.consult.new.self) c.consult.result (tuple? _) c.in-Tuple.is
+    (search rules) (rw c.in-Tuple.is c.consult.ensures)
