@@ -3,3 +3,4 @@ pub mod Laws
 pub mod Fnv
 pub mod Answers
 pub mod Tallies
+pub mod Words

@@ -1,7 +1,9 @@
 //! The column kinds by name.
 
+ghost use Rattle.std.specs.Prelude.{◌≡◌, MatchResult};
 ghost use Rattle.cases.specs.Kinds.{meaning_of};
 ghost use Rattle.cases.specs.Laws.{kind-lawful};
+ghost use Rattle.cases.specs.Words.{name_of, IsNoName};
 
 use anyhow::anyhow;
 use column::fault::Fault;
@@ -28,6 +30,8 @@ const STEPS_SHORT: Steps<Short> = Steps { lower: Short };
 
 impl FromStr for Kind {
     type Err = anyhow::Error;
+
+    ghost from_str_gives = { λ name r. MatchResult r (λ kind. name ≡ name_of kind) (λ _. IsNoName name) };
 
     fn from_str(name: &str) -> anyhow::Result<Kind> {
         match name {

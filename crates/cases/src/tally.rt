@@ -1,6 +1,6 @@
 //! How many answers were compared.
 
-ghost use Rattle.std.specs.Prelude.{◌≡◌, if◌then◌else◌};
+ghost use Rattle.std.specs.Prelude.{◌≡◌, ◌++◌, if◌then◌else◌, codes, decimal, Some};
 ghost use Rattle.cases.specs.Tallies.{saturated, AddsTally};
 
 use std::fmt;
@@ -35,6 +35,8 @@ impl AddAssign for Tally {
 }
 
 impl fmt::Display for Tally {
+    ghost output = { λ tally. Some (decimal tally.compared ++ codes " compared, " ++ decimal tally.differed ++ codes " differ") };
+
     fn fmt<W: fmt::Write>(&self, f: &mut fmt::Formatter<W>) -> fmt::Result {
         let Tally { compared, differed } = self;
         write!(f, "{compared} compared, {differed} differ")

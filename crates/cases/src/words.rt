@@ -1,6 +1,7 @@
 //! The words of a line.
 
-ghost use Rattle.std.specs.Prelude.{◌<◌, IfOk};
+ghost use Rattle.std.specs.Prelude.{◌≡◌, ◌<◌, IfOk, Some, None, MatchResult};
+ghost use Rattle.cases.specs.Words.{digit_of};
 
 use crate::strings::StringSet;
 use anyhow::anyhow;
@@ -76,7 +77,8 @@ fn byte(digits: &[u8]) -> anyhow::Result<u8> {
 /// The value of a hexadecimal digit.
 // Stays: the library's conversions, as `to_digit` and `from_str_radix`, take capital letters too, which are no digits of the data files.
 fn digit(letter: u8) -> anyhow::Result<u8>
-    ensures { IfOk result (λ d. d < 16) }
+    ensures value { MatchResult result (λ d. digit_of letter ≡ Some d) (λ _. digit_of letter ≡ None) }
+    ensures small { IfOk result (λ d. d < 16) }
 {
     match letter {
         b'0'..=b'9' => Ok(letter - b'0'),
