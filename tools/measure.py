@@ -1,11 +1,12 @@
 #!/usr/bin/env python3
-"""Measures writing and reading: python3 tools/measure.py [--beside PROGRAM] [--core N] [--runs N] [--no-time]
+"""Measures writing and reading: python3 tools/measure.py [--beside PROGRAM] [--core N] [--runs N] [--no-time] [--where]
 
 Wants valgrind, and crates/bench/out/bench (`cd crates/bench && rt run`). --beside names the reference's program, built from
 tools/bench/beside.rs as docs/PERFORMANCE.md says. Instructions of a phase are the difference of two runs that differ only in how often
 they do it, counted by callgrind. The time is such a difference too: of user time, on one core, the median of several runs.
+--where prints instead in which functions of this side the instructions of a call are.
 """
-import argparse, os, re, resource, statistics, subprocess, sys, tempfile
+import argparse, collections, os, re, resource, statistics, subprocess, sys, tempfile
 
 HERE = os.path.dirname(os.path.abspath(__file__))
 BENCH = os.path.join(HERE, "..", "crates", "bench", "out", "bench")
@@ -42,6 +43,19 @@ class Side:
             log = subprocess.run(command, capture_output=True, text=True, check=True).stderr
         return int(re.search(r"Collected : (\d+)", log).group(1))
 
+    def functions(self, phase, times):
+        """The instructions of each function."""
+        with tempfile.TemporaryDirectory() as place:
+            out = f"{place}/out"
+            command = ["valgrind", "--tool=callgrind", f"--callgrind-out-file={out}", *self.command(phase, times)]
+            subprocess.run(command, capture_output=True, check=True)
+            told = subprocess.run(["callgrind_annotate", "--threshold=100", out], capture_output=True, text=True, check=True).stdout
+        found = re.findall(r"^ *([\d,]+) \([^)]*\)  [^\n:]*:(.*?)(?: \[[^\n]*)?$", told, re.M)
+        counts = collections.Counter()
+        for count, name in found:
+            counts[name] += int(count.replace(",", ""))
+        return counts
+
     def seconds(self, phase, times):
         before = resource.getrusage(resource.RUSAGE_CHILDREN).ru_utime
         subprocess.run(["taskset", "-c", str(self.core), *self.command(phase, times)], stdout=subprocess.DEVNULL, check=True)
@@ -52,16 +66,27 @@ def per_phase(measure, phase, more):
     return (measure(phase, 1 + more) - measure(phase, 1)) / more
 
 
+def where(side, title, calls, few):
+    for phase in ("write", "read"):
+        many, one = side.functions(phase, 1 + few), side.functions(phase, 1)
+        print(f"{title}, {phase}: instructions for each of {calls:,} calls")
+        for name, count in sorted(((n, (many[n] - one[n]) / few / calls) for n in many), key=lambda it: -it[1]):
+            if count >= 0.5:
+                print(f"  {count:8.1f} {name}", flush=True)
+
+
 def main():
     parser = argparse.ArgumentParser()
     parser.add_argument("--beside")
     parser.add_argument("--core", type=int, default=3)
     parser.add_argument("--runs", type=int, default=7)
     parser.add_argument("--no-time", action="store_true")
+    parser.add_argument("--where", action="store_true")
     parser.add_argument("--only", default="")
     options = parser.parse_args()
-    print("| workload | calls | phase | instructions here | a call | of the Rust | a call | ratio | time here | ratio of times |")
-    print("|-|-|-|-|-|-|-|-|-|-|")
+    if not options.where:
+        print("| workload | calls | phase | instructions here | a call | of the Rust | a call | ratio | time here | ratio of times |")
+        print("|-|-|-|-|-|-|-|-|-|-|")
     for title, shape, items, few, many in WORKLOADS:
         if options.only not in f"{shape} {items}":
             continue
@@ -72,6 +97,9 @@ def main():
             lines.write(text)
             lines.flush()
             calls = text.count("\n")
+            if options.where:
+                where(here, title, calls, few)
+                continue
             if options.beside:
                 sides.append(Side("beside", [options.beside, lines.name, "PHASE", "TIMES"], options.core))
                 for phase in ("write", "read"):
