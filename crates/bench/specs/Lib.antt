@@ -3,3 +3,4 @@ pub mod Fnv
 pub mod Tallies
 pub mod Hearing
 pub mod Writing
+pub mod Names

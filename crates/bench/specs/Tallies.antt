@@ -1,5 +1,5 @@
 -- What answers count.
-use Rattle.std.specs.Prelude.{ℕ, cond}
+use Rattle.std.specs.Prelude.{ℕ, ◌-◌, List, length, cond, slice_index}
 use Rattle.document.specs.declared.questions.Answer.{Answer}
 use Rattle.document.specs.declared.questions.Answer.TheVariants as answers
 use Rattle.document.specs.Said.{bits}
@@ -25,3 +25,7 @@ amount (answers.Seq n) = n
 amount (answers.Map n) = n
 amount answers.Tuple = 0
 amount answers.End = 0
+
+-- the last byte of a text, 0 of none
+abbrev pub last_of : List ℕ → ℕ
+last_of bs = slice_index bs (length bs - 1)

@@ -1,5 +1,8 @@
 //! What is done: with a document of which shape and size, and how often.
 
+ghost use Rattle.std.specs.Prelude.{◌≡◌, MatchResult};
+ghost use Rattle.bench.specs.Names.{shape_name, phase_name, IsNoShape, IsNoPhase};
+
 use anyhow::anyhow;
 use std::fmt;
 use std::str::FromStr;
@@ -19,6 +22,8 @@ pub(crate) enum Shape {
 
 impl FromStr for Shape {
     type Err = anyhow::Error;
+
+    ghost from_str_gives = { λ name r. MatchResult r (λ shape. name ≡ shape_name shape) (λ _. IsNoShape name) };
 
     fn from_str(name: &str) -> anyhow::Result<Shape> {
         match name {
@@ -48,6 +53,8 @@ pub(crate) enum Phase {
 
 impl FromStr for Phase {
     type Err = anyhow::Error;
+
+    ghost from_str_gives = { λ name r. MatchResult r (λ phase. name ≡ phase_name phase) (λ _. IsNoPhase name) };
 
     fn from_str(name: &str) -> anyhow::Result<Phase> {
         match name {

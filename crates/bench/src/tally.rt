@@ -1,7 +1,7 @@
 //! What was answered, added up.
 
 ghost use Rattle.std.specs.Prelude.{◌≡◌, ◌+◌, ◌%◌, ◌^◌};
-ghost use Rattle.bench.specs.Tallies.{amount};
+ghost use Rattle.bench.specs.Tallies.{amount, last_of};
 
 use document::questions::Answer;
 use std::fmt;
@@ -36,7 +36,8 @@ pub(crate) struct Tally {
 impl Tally {
     /// With an answer added.
     pub(crate) fn with(self, answer: Answer) -> Tally
-        ensures { result.answers ≡ (self.answers + amount answer) % 2 ^ 64 }
+        ensures answers { result.answers ≡ (self.answers + amount answer) % 2 ^ 64 }
+        ensures texts { result.texts ≡ self.texts }
     {
         Tally {
             answers: self.answers.wrapping_add(amount(answer)),
@@ -46,7 +47,8 @@ impl Tally {
 
     /// With a text's last byte added.
     pub(crate) fn with_text(self, text: &[u8]) -> Tally
-        ensures { result.answers ≡ self.answers }
+        ensures answers { result.answers ≡ self.answers }
+        ensures texts { result.texts ≡ (self.texts + last_of text.now) % 2 ^ 64 }
     {
         let last = text.last().copied().unwrap_or(0);
         Tally {
