@@ -3,3 +3,4 @@ pub mod Adding
 pub mod Sending
 pub mod Returned
 pub mod Asking
+pub mod Awaiting
