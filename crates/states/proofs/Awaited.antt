@@ -75,8 +75,8 @@ pub same-error : {Y : Type 0} (e : MessageError) (s : Result Y MessageError) →
 same-error e s fails is = subst (λ m. IsErrAnd s (λ y. y ≡ m)) is fails
 
 -- .. which may be want of memory
-pub wanting : {Y : Type 0} {P : Y → Type 0} (s : Result Y MessageError) → IsErrAnd s (λ y. y ≡ Memory) → MatchResult s P (λ e. e ≡ Memory)
-wanting s fails = rw (passed_on s Memory fails) refl
+pub wanting : {Y : Type 0} (P : Y → Type 0) (s : Result Y MessageError) → IsErrAnd s (λ y. y ≡ Memory) → MatchResult s P (λ e. e ≡ Memory)
+wanting P s fails = rw (passed_on s Memory fails) refl
 
 -- ---- one after another
 
@@ -112,13 +112,13 @@ read-failed {meaning = meaning} {input = input} {r = r} {parts = parts} after Sa
       let (k, w') = before.along x rest w in
       let (p, is) = split x k in
       let e = t.takes p (after x ++ rest) (subst (Awaits meaning input r) (ap (λ cs. cs ++ rest) is ∙ append_assoc (parts p) (after x) rest) w') in
-      wanting s (fails e);
+      wanting _ s (fails e);
 }
 
 -- there was no memory for what was read
 pub no-memory : {C X Y : Type 0} {meaning : C → Meaning} {input : List ℕ} {old r : Reader C} {calls left : X → List Call} {Knows : X → Type 0} (Same : Y → X → Type 0) (s : Result Y MessageError) → IsErrAnd s (λ y. y ≡ Memory)
     → Along meaning input old r calls Knows left → Reads meaning input old r calls Same s
-no-memory Same s fails before = record { lengths = before.lengths; takes = λ x rest w. wanting s fails }
+no-memory Same s fails before = record { lengths = before.lengths; takes = λ x rest w. wanting _ s fails }
 
 -- all of it is read
 pub read-all : {C X Y E : Type 0} {meaning : C → Meaning} {input : List ℕ} {old r : Reader C} {calls left : X → List Call} {Knows : X → Type 0} {Fails : E → Type 0} (y : Y) (Same : Y → X → Type 0) → ((x : X) → Knows x → (left x ≡ []) × Same y x)

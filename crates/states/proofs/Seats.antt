@@ -1,12 +1,12 @@
 -- A seat is read, part by part.
-use Rattle.std.proofs.Common.{◌≡◌, ℕ, List, [], ◌∷◌, ◌++◌, Ok, Bor, Vec, Global, vec_items, refl}
+use Rattle.std.proofs.Common.{◌≡◌, ℕ, List, [], ◌∷◌, ◌++◌, Ok, Bor, Vec, Global, vec_items, refl, append_assoc}
 use Rattle.column.specs.Meaning.{Meaning}
 use Rattle.document.specs.Calls.{Call, val, end, tuple}
 use Rattle.de.specs.declared.reader.Reader.{Reader}
 use Rattle.states.specs.declared.asking.Items.TheVariants.{Elements, Pairs}
 use Rattle.states.specs.declared.state.Grant.{Grant}
 use Rattle.states.specs.declared.state.Seat.{Seat}
-use Rattle.states.specs.Documents.{number_calls, grant_calls, cards_calls, grants_calls, seat_calls}
+use Rattle.states.specs.Documents.{number_calls, grant_calls, cards_calls, grants_calls, hand_calls, seat_calls}
 use Rattle.states.specs.Awaiting.{Takes, Reads, text_calls, items_calls}
 use Rattle.states.proofs.Awaited.{Along, begun, read-next}
 
@@ -25,7 +25,7 @@ from_name s = text_calls s.name.now ++ from_cards s
 module _ {C : Type 0} (meaning : C → Meaning) (input : List ℕ) (old : Reader C) {A E : Type 0} {Says : A → Unit {0} → Type 0} {Fails : E → Type 0} {a : A} {opened : Reader C} (t : Takes meaning input old opened (λ u. val (tuple 3) ∷ []) Says Fails (Ok a)) where
   -- it is opened
   pub opened-seat : Along meaning input old opened seat_calls (λ s. Unit {0}) from_name
-  opened-seat = read-next (λ (s : Seat). Unit {0}) from_name (λ s k. (tt, refl, λ says. tt)) (begun meaning input old seat_calls) t
+  opened-seat = read-next (λ (s : Seat). Unit {0}) from_name (λ s k. (tt, append_assoc (hand_calls s) (grants_calls s.grants.now) (end ∷ []), λ says. tt)) (begun meaning input old seat_calls) t
 
   module _ (name : Bor (List ℕ)) {named : Reader C} (u : Reads meaning input opened named text_calls (λ y x. y.now ≡ x) (Ok name)) where
     -- its name is read

@@ -36,7 +36,7 @@ returns-in_err-ask-2 g c =
     let input = c.args.input.now in
     let opened = asked-takes meaning input c.args.reader.now c.ask.new.self (λ u. val (tuple 3)) (questions.Tuple 3) (Ok c.in_ok-ask.field-0) (λ u. refl) c.in_ok-ask.ensures.told c.in_ok-ask.ensures.lengths c.in_ok-ask.ensures.kind c.in_ok-ask.ensures.input in
     let ended = asked-takes meaning input c.read_list-2.new.reader c.ask-2.new.self (λ u. end) questions.End (Err c.in_err-ask-2.field-0.0) (λ u. refl) c.in_err-ask-2.ensures.told c.in_err-ask-2.ensures.lengths c.in_err-ask-2.ensures.kind c.in_err-ask-2.ensures.input in
-    read-failed (λ s. []) SameSeat c.from_residual-in_err-ask-2.result (λ s k. (tt, refl)) (λ no. absurd no)
+    read-failed (λ s. []) SameSeat c.from_residual-in_err-ask-2.result (λ s k. (tt {0}, refl)) (λ no. absurd no)
     (granted-seat meaning input c.args.reader.now opened c.in_ok-name.name c.in_ok-name.ensures c.in_ok-cards.cards (c.in_ok-cards.ensures input) c.in_ok-grants.grants (c.in_ok-grants.ensures input)) ended
 
 pub returns : goal.returns
@@ -46,5 +46,5 @@ returns g c =
     let opened = asked-takes meaning input c.args.reader.now c.ask.new.self (λ u. val (tuple 3)) (questions.Tuple 3) (Ok c.in_ok-ask.field-0) (λ u. refl) c.in_ok-ask.ensures.told c.in_ok-ask.ensures.lengths c.in_ok-ask.ensures.kind c.in_ok-ask.ensures.input in
     let ended = asked-takes meaning input c.read_list-2.new.reader c.ask-2.new.self (λ u. end) questions.End (Ok c.in_ok-ask-2.field-0) (λ u. refl) c.in_ok-ask-2.ensures.told c.in_ok-ask-2.ensures.lengths c.in_ok-ask-2.ensures.kind c.in_ok-ask-2.ensures.input in
     read-all _ SameSeat (λ s k. (refl, k))
-    (read-next _ (λ s. []) (λ s k. (tt, refl, λ says. k))
+    (read-next _ (λ s. []) (λ s k. (tt {0}, refl, λ says. k))
         (granted-seat meaning input c.args.reader.now opened c.in_ok-name.name c.in_ok-name.ensures c.in_ok-cards.cards (c.in_ok-cards.ensures input) c.in_ok-grants.grants (c.in_ok-grants.ensures input)) ended)
