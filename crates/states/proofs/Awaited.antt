@@ -1,6 +1,5 @@
 -- What a reader awaits is read, one question after another.
-use Rattle.std.proofs.Common.{◌≡◌, ℕ, zero, suc, ◌+◌, ◌<◌, ◌≤◌, Bool, true, false, List, [], ◌∷◌, ◌++◌, length, take, drop, Ok, Err, Result, MatchResult, IsErrAnd, sym, refl, ap, ◌∙◌, subst, append_assoc, append-nil}
-use Rattle.std.specs.List.{AllZip, flat_map}
+use Rattle.std.proofs.Common.{◌≡◌, ℕ, ◌≤◌, false, List, [], ◌∷◌, ◌++◌, Ok, Err, Result, MatchResult, IsErrAnd, sym, refl, ap, ◌∙◌, subst, append_assoc, append-nil}
 use Rattle.column.specs.Meaning.{Meaning, Lawful}
 use Rattle.column.proofs.Choice.{passed_on}
 use Rattle.document.specs.declared.refusals.Refusal.{Refusal}
@@ -51,22 +50,6 @@ asked-takes meaning input old new call q res is told lengths kind kept = record 
           hears = subst (λ k. Hears (meaning k.now) input S rest) (sym kind) more;
         } in
         rw ok (says, next)
-
--- what an answer says is what is taken
-pub answer-taken : {C X A Y E F : Type 0} {meaning : C → Meaning} {input : List ℕ} {old new : Reader C} {calls : X → List Call} {Same : A → X → Type 0} {Fails : E → Type 0} {Fails' : F → Type 0} {r : Result A E} (a : A) (y : Y) (Same' : Y → X → Type 0)
-    → Takes meaning input old new calls Same Fails r → r ≡ Ok a → ((x : X) → Same a x → Same' y x) → Takes meaning input old new calls Same' Fails' (Ok y)
-answer-taken {meaning = meaning} {input = input} {new = new} {Same = Same} {Fails = Fails} a y Same' t is same = record {
-  lengths = t.lengths;
-  takes = λ x rest w. let (s, next) = subst (λ z. MatchResult z (λ a. Same a x × Awaits meaning input new rest) Fails) is (t.takes x rest w) in (same x s, next);
-}
-
--- no question is refused
-pub none-refused : {C X A Y E F : Type 0} {meaning : C → Meaning} {input : List ℕ} {old new : Reader C} {calls : X → List Call} {Same : A → X → Type 0} {Fails' : F → Type 0} {r : Result A E} (e : E) (Same' : Y → X → Type 0) (s : Result Y F)
-    → Takes meaning input old new calls Same (λ (e : E). ⊥) r → r ≡ Err e → Takes meaning input old new calls Same' Fails' s
-none-refused {meaning = meaning} {input = input} {new = new} {Same = Same} e Same' s t is = record {
-  lengths = t.lengths;
-  takes = λ x rest w. let no : ⊥ = subst (λ z. MatchResult z (λ a. Same a x × Awaits meaning input new rest) (λ e. ⊥)) is (t.takes x rest w) in absurd no;
-}
 
 -- ---- want of memory
 

@@ -1,5 +1,5 @@
 -- A grant by its parts.
-use Rattle.std.proofs.Common.{◌≡◌, ℕ, Bool, true, false, List, [], ◌∷◌, ◌++◌, Ok, Option, Some, None, is_some, refl, ap, ap₂, sym}
+use Rattle.std.proofs.Common.{◌≡◌, ℕ, Bool, true, false, List, [], ◌++◌, Ok, Option, Some, None, is_some, refl, ap₂, sym}
 use Rattle.column.specs.Meaning.{Meaning}
 use Rattle.document.specs.Calls.{Call}
 use Rattle.de.specs.declared.reader.Reader.{Reader}

@@ -9,9 +9,8 @@ use Rattle.document.specs.Calls.{Call, end}
 use Rattle.de.specs.declared.reader.Reader.{Reader}
 use Rattle.states.specs.declared.asking.Items.{Items}
 use Rattle.states.specs.declared.message.MessageError.{MessageError}
-use Rattle.states.specs.declared.message.MessageError.TheVariants.{Memory}
-use Rattle.states.specs.Awaiting.{Awaits, Takes, Reads, length_calls, items_calls}
-use Rattle.states.proofs.Awaited.{Along, begun, read-next, read-failed, no-memory, read-all, same-error}
+use Rattle.states.specs.Awaiting.{Takes, Reads, length_calls, items_calls}
+use Rattle.states.proofs.Awaited.{Along, begun, read-next, read-failed, read-all, same-error}
 
 -- the item at a place, between those before and those after it
 pieces-suc : {X : Type 0} (i : ℕ) (xs : List X) → i < length xs → (x : X) × (drop i xs ≡ x ∷ drop (suc i) xs) × (take (suc i) xs ≡ take i xs ++ x ∷ [])

@@ -2,8 +2,7 @@
 use Rattle.std.specs.Prelude.{◌≡◌, ℕ, ◌≤◌, List, MatchResult, Result, vec_items}
 use Rattle.std.specs.List.{AllZip}
 use Rattle.column.specs.Meaning.{Meaning}
-use Rattle.document.specs.Bytes.{bytes}
-use Rattle.document.specs.Verdict.{Sizes, Accepted, Done}
+use Rattle.document.specs.Verdict.{Sizes}
 use Rattle.states.specs.declared.message.MessageError.{MessageError}
 use Rattle.states.specs.declared.message.MessageError.TheVariants.{Memory}
 use Rattle.states.specs.declared.state.Seat.{Seat}
@@ -11,6 +10,7 @@ use Rattle.states.specs.declared.state.TableState.{TableState}
 use Rattle.states.specs.declared.reading.ReadSeat.{ReadSeat}
 use Rattle.states.specs.declared.reading.ReadState.{ReadState}
 use Rattle.states.specs.Documents.{state_calls}
+use Rattle.states.specs.Sending.{Conveys}
 
 -- the same name, cards and grants
 abbrev pub SameSeat : ReadSeat → Seat → Type 0
@@ -24,12 +24,6 @@ SameState r s = AllZip SameSeat (vec_items r.seats) s.seats.now
 abbrev pub Returned : TableState → Result ReadState MessageError → Type 0
 Returned s r = MatchResult r (λ read. SameState read s) (λ e. e ≡ Memory)
 
--- a message is what a writer over tables of these lengths makes of a state
-pub record Sent (sizes : Sizes) (col : Meaning) (s : TableState) (message : List ℕ) : Type 0 where
-  pub accepted : Accepted sizes (state_calls s)
-  pub complete : Done (state_calls s)
-  pub bytes_are : message ≡ bytes col (state_calls s)
-
 -- Whatever state a message is, it is the one that was read, with tables of so many nodes and slots that are no smaller than the writer's.
 abbrev pub Receives : Meaning → ℕ → ℕ → List ℕ → Result ReadState MessageError → Type 0
-Receives col nodes slots message r = (s : TableState) (sizes : Sizes) → Sent sizes col s message → sizes.nodes ≤ nodes → sizes.cells ≤ slots → Returned s r
+Receives col nodes slots message r = (s : TableState) (sizes : Sizes) → Conveys sizes col (state_calls s) message → sizes.nodes ≤ nodes → sizes.cells ≤ slots → Returned s r

@@ -145,7 +145,7 @@ fn read_seat<'a, C: Column>(
 }
 
 /// All seats.
-// Stays: a loop of its own beside `read_list`, since a seat borrows the input and is compared with what was written, not equal to it.
+// Stays: a loop of its own beside `read_list`, since a seat that was read is of another type than one that was told: it is the same as that one, and not equal to it.
 fn read_seats<'a, C: Column>(
     heap: Global,
     reader: &mut Reader<'_, C>,

@@ -1,4 +1,4 @@
-use Rattle.std.proofs.Common.{◌≡◌, Err, Ok, List, vec_items, refl, sym, subst, ◌∷◌, ◌++◌, [], ◌+◌, ◌∙◌, ap}
+use Rattle.std.proofs.Common.{◌≡◌, Err, Ok, vec_items, refl, sym, subst, ◌+◌}
 use Rattle.document.specs.declared.questions.Question.TheVariants as questions
 use Rattle.document.specs.Calls.{end}
 use Rattle.states.proofs.Awaited.{asked-takes, no-memory}

@@ -47,4 +47,4 @@ returns g c =
     let ended = asked-takes meaning input c.read_list-2.new.reader c.ask-2.new.self (λ u. end) questions.End (Ok c.in_ok-ask-2.field-0) (λ u. refl) c.in_ok-ask-2.ensures.told c.in_ok-ask-2.ensures.lengths c.in_ok-ask-2.ensures.kind c.in_ok-ask-2.ensures.input in
     read-all _ SameSeat (λ s k. (refl, k))
     (read-next _ (λ s. []) (λ s k. (tt {0}, refl, λ says. k))
-        (granted-seat meaning input c.args.reader.now opened c.in_ok-name.name c.in_ok-name.ensures c.in_ok-cards.cards (c.in_ok-cards.ensures input) c.in_ok-grants.grants (c.in_ok-grants.ensures input)) ended)
+    (granted-seat meaning input c.args.reader.now opened c.in_ok-name.name c.in_ok-name.ensures c.in_ok-cards.cards (c.in_ok-cards.ensures input) c.in_ok-grants.grants (c.in_ok-grants.ensures input)) ended)

@@ -1,5 +1,4 @@
-use Rattle.std.proofs.Common.{◌≡◌, Ok, Err, Result}
-use Rattle.document.specs.declared.refusals.Refusal.{Refusal}
+use Rattle.std.proofs.Common.{Err}
 use Rattle.states.proofs.Awaited.{whole-read, finish-accepted, same-error, wanting}
 use Rattle.states.proofs.reading.read_state.Goals as goal
 

@@ -26,7 +26,7 @@ pub returns-in_ok-number : goal.returns-in_ok-number
 returns-in_ok-number g c input =
     let opens = opening-read g.C.Column.meaning input c.args.reader.now c.in_ok-card.card c.in_ok-is_some.field-0 (c.in_ok-card.ensures input) (c.in_ok-is_some.ensures input) in
     let whole = read-next (λ (x : Grant). (c.in_ok-card.card ≡ x.card) × (x.seat ≡ Some c.in_ok-number.field-0)) (λ x. [])
-        (λ x k. let (n, is, seat) = seat-follows c.in_ok-is_some.field-0 x.seat k.1 c.if-branch.true in (n, is, λ same. (k.0, seat ∙ ap Some (sym same)))) opens (c.in_ok-number.ensures input) in
+    (λ x k. let (n, is, seat) = seat-follows c.in_ok-is_some.field-0 x.seat k.1 c.if-branch.true in (n, is, λ same. (k.0, seat ∙ ap Some (sym same)))) opens (c.in_ok-number.ensures input) in
     read-all _ (λ y x. y ≡ x) (λ x k. (refl, same-grant c.in_ok-card.card (Some c.in_ok-number.field-0) x k.0 k.1)) whole
 
 pub returns-else-branch : goal.returns-else-branch
