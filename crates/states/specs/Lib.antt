@@ -4,3 +4,4 @@ pub mod Sending
 pub mod Returned
 pub mod Asking
 pub mod Awaiting
+pub mod ComingBack

@@ -22,7 +22,7 @@ use std::alloc::{AllocError, AllocFailed, Global};
 use std::fmt;
 
 /// Room for the bytes of a state.
-const ROOM: usize = 256;
+pub(crate) const ROOM: usize = 256;
 
 /// Why there is no message, or a message is no state.
 #[derive(Drop)]
