@@ -3,7 +3,6 @@ use Rattle.std.proofs.Common.{◌≡◌, ℕ, ◌≤◌, false, List, [], ◌∷
 use Rattle.column.specs.Meaning.{Meaning, Lawful}
 use Rattle.column.proofs.Choice.{passed_on}
 use Rattle.document.specs.declared.refusals.Refusal.{Refusal}
-use Rattle.document.specs.declared.questions.Answer.{Answer}
 use Rattle.document.specs.declared.questions.Question.{Question}
 use Rattle.document.specs.Calls.{Call, val, end}
 use Rattle.document.specs.Places.{Place}
@@ -15,41 +14,12 @@ use Rattle.document.specs.Replay.{Replay, heard, stopped, hearing, also, ending,
 use Rattle.document.specs.Theorems.{Asks, Asked}
 use Rattle.document.proofs.Accepted.{replays}
 use Rattle.de.specs.declared.reader.Reader.{Reader}
-use Rattle.de.specs.Answered.{Within}
-use Rattle.de.specs.Standing.{Stands, ended, finishing}
-use Rattle.de.specs.Readers.{StandsFor, Tells, KeepsLengths}
+use Rattle.de.specs.Standing.{ended, finishing}
+use Rattle.de.specs.Readers.{StandsFor, KeepsLengths}
 use Rattle.de.proofs.Sizes.{lengths_trans}
-use Rattle.replay.specs.Says.{Says}
-use Rattle.replay.proofs.Hearing.{hears_says}
 use Rattle.states.specs.declared.message.MessageError.{MessageError}
 use Rattle.states.specs.declared.message.MessageError.TheVariants.{Memory}
 use Rattle.states.specs.Awaiting.{HeardAs, Hears, Awaits, Takes, Reads}
-
--- ---- one question
-
--- a question that asks for one of these calls is answered by its value
-pub asked-takes : {C X : Type 0} (meaning : C → Meaning) (input : List ℕ) (old new : Reader C) (call : X → Call) (q : Question) (res : Result Answer Refusal)
-    → ((x : X) → q ≡ asked false (call x)) → ((R : Reading) → StandsFor old R → Tells old new R (answer (meaning old.kind.now) R.store R.places q) res) → KeepsLengths old new → new.kind ≡ old.kind → new.input ≡ old.input
-    → Takes meaning input old new (λ x. call x ∷ []) (λ a x. Says a (call x) input) (λ (e : Refusal). ⊥) res
-asked-takes meaning input old new call q res is told lengths kind kept = record {
-  lengths = lengths;
-  takes = λ x rest w.
-      go x rest w.reading w.over (answer (meaning old.kind.now) w.reading.store w.reading.places (asked false (call x))) refl
-      (subst (λ p. Tells old new w.reading (answer (meaning old.kind.now) w.reading.store w.reading.places p) res) (is x) (told w.reading w.stands)) w.hears;
-}
-  where
-    go : (x : _) (rest : List Call) (R : Reading) → old.input.now ≡ input → (y : Reply) → answer (meaning old.kind.now) R.store R.places (asked false (call x)) ≡ y → Tells old new R y res
-        → HeardAs input (call x) (λ S. Hears (meaning old.kind.now) input S rest) y → MatchResult res (λ a. Says a (call x) input × Awaits meaning input new rest) (λ (e : Refusal). ⊥)
-    go x rest R over (refuse e) t told h = absurd h
-    go x rest R over (reply d place S) t (a, ok, ans, within, lengths, s) (same, more) =
-        let says : Says a (call x) input = (hears_says (meaning old.kind.now) R.store R.places false (call x) d place S a input t ans (subst (λ z. Within z d place) over within)).0 same in
-        let next : Awaits meaning input new rest = record {
-          reading = S;
-          stands = subst (λ b. Stands new.desk b.now S) (sym kept) s;
-          over = ap (λ b. b.now) kept ∙ over;
-          hears = subst (λ k. Hears (meaning k.now) input S rest) (sym kind) more;
-        } in
-        rw ok (says, next)
 
 -- ---- want of memory
 

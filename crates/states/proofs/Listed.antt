@@ -4,12 +4,11 @@ use Rattle.std.proofs.Math.ListN.{drop_of_length-le}
 use Rattle.std.proofs.lemmas.List.{take_all}
 use Rattle.std.specs.List.{AllZip, flat_map}
 use Rattle.column.specs.Meaning.{Meaning}
-use Rattle.document.specs.declared.refusals.Refusal.{Refusal}
 use Rattle.document.specs.Calls.{Call, end}
 use Rattle.de.specs.declared.reader.Reader.{Reader}
 use Rattle.states.specs.declared.asking.Items.{Items}
 use Rattle.states.specs.declared.message.MessageError.{MessageError}
-use Rattle.states.specs.Awaiting.{Takes, Reads, length_calls, items_calls}
+use Rattle.states.specs.Awaiting.{Reads, length_calls, items_calls, end_calls}
 use Rattle.states.proofs.Awaited.{Along, begun, read-next, read-failed, read-all, same-error}
 
 -- the item at a place, between those before and those after it
@@ -79,13 +78,14 @@ module _ {C X Y : Type 0} {meaning : C → Meaning} {input : List ℕ} {old : Re
     last : n ≤ i → (xs : List X) → Known Same n i ys xs → left calls i xs ≡ end ∷ []
     last l xs k = ap (λ zs. flat_map calls zs ++ end ∷ []) (drop_of_length-le xs (omega arith))
 
-    -- .. is never refused
-    pub end-failed : {new : Reader C} {A L : Type 0} {Says : A → Unit {0} → Type 0} (Is : L → List X → Type 0) (s : Result L MessageError) (e : Refusal) → n ≤ i → Takes meaning input now new (λ u. end ∷ []) Says (λ e. ⊥) (Err e) → Reads meaning input old new (items_calls items calls) Is s
-    end-failed Is s e l t = read-failed (λ xs. []) Is s (λ xs k. (tt, last l xs k)) (λ no. absurd no) before t
+    -- .. is not read
+    pub end-failed : {new : Reader C} {L : Type 0} (Is : L → List X → Type 0) (s : Result L MessageError) (e : MessageError) → n ≤ i → IsErrAnd s (λ y. y ≡ e) → Reads meaning input now new end_calls (λ y x. y ≡ x) (Err e)
+        → Reads meaning input old new (items_calls items calls) Is s
+    end-failed Is s e l fails t = read-failed (λ xs. []) Is s (λ xs k. (tt {0}, last l xs k)) (same-error e s fails) before t
 
     -- all items are read, and the end
-    pub list-read : {new : Reader C} {A L : Type 0} {Says : A → Unit {0} → Type 0} (Is : L → List X → Type 0) (list : L) (a : A) → ((xs : List X) → AllZip Same ys xs → Is list xs) → n ≤ i → Takes meaning input now new (λ u. end ∷ []) Says (λ (e : Refusal). ⊥) (Ok a)
+    pub list-read : {new : Reader C} {L : Type 0} (Is : L → List X → Type 0) (list : L) → ((xs : List X) → AllZip Same ys xs → Is list xs) → n ≤ i → Reads meaning input now new end_calls (λ y x. y ≡ x) (Ok tt)
         → Reads meaning input old new (items_calls items calls) Is (Ok list)
-    list-read Is list a is l t =
+    list-read Is list is l t =
         read-all list Is (λ xs k. (refl, is xs (subst (AllZip Same ys) (take_all i xs (omega arith)) k.1)))
-        (read-next (Known Same n i ys) (λ xs. []) (λ xs k. (tt, last l xs k, λ says. k)) before t)
+        (read-next (Known Same n i ys) (λ xs. []) (λ xs k. (tt {0}, last l xs k, λ same. k)) before t)

@@ -1,13 +1,13 @@
 -- A seat is read, part by part.
 use Rattle.std.proofs.Common.{◌≡◌, ℕ, List, [], ◌∷◌, ◌++◌, Ok, Bor, Vec, Global, vec_items, refl, append_assoc}
 use Rattle.column.specs.Meaning.{Meaning}
-use Rattle.document.specs.Calls.{Call, val, end, tuple}
+use Rattle.document.specs.Calls.{Call, end}
 use Rattle.de.specs.declared.reader.Reader.{Reader}
 use Rattle.states.specs.declared.asking.Items.TheVariants.{Elements, Pairs}
 use Rattle.states.specs.declared.state.Grant.{Grant}
 use Rattle.states.specs.declared.state.Seat.{Seat}
 use Rattle.states.specs.Documents.{number_calls, grant_calls, cards_calls, grants_calls, hand_calls, seat_calls}
-use Rattle.states.specs.Awaiting.{Takes, Reads, text_calls, items_calls}
+use Rattle.states.specs.Awaiting.{Reads, text_calls, tuple_calls, items_calls}
 use Rattle.states.proofs.Awaited.{Along, begun, read-next}
 
 -- a seat's calls from its grants on
@@ -22,10 +22,14 @@ from_cards s = cards_calls s.cards.now ++ from_grants s
 abbrev pub from_name : Seat → List Call
 from_name s = text_calls s.name.now ++ from_cards s
 
-module _ {C : Type 0} (meaning : C → Meaning) (input : List ℕ) (old : Reader C) {A E : Type 0} {Says : A → Unit {0} → Type 0} {Fails : E → Type 0} {a : A} {opened : Reader C} (t : Takes meaning input old opened (λ u. val (tuple 3) ∷ []) Says Fails (Ok a)) where
+-- a seat's calls are its beginning and those from its name on
+pub seat-parts : (s : Seat) → seat_calls s ≡ tuple_calls 3 tt ++ from_name s
+seat-parts s = append_assoc (hand_calls s) (grants_calls s.grants.now) (end ∷ [])
+
+module _ {C : Type 0} (meaning : C → Meaning) (input : List ℕ) (old : Reader C) {opened : Reader C} (t : Reads meaning input old opened (tuple_calls 3) (λ y x. y ≡ x) (Ok tt)) where
   -- it is opened
   pub opened-seat : Along meaning input old opened seat_calls (λ s. Unit {0}) from_name
-  opened-seat = read-next (λ (s : Seat). Unit {0}) from_name (λ s k. (tt, append_assoc (hand_calls s) (grants_calls s.grants.now) (end ∷ []), λ says. tt)) (begun meaning input old seat_calls) t
+  opened-seat = read-next (λ (s : Seat). Unit {0}) from_name (λ s k. (tt, seat-parts s, λ same. tt)) (begun meaning input old seat_calls) t
 
   module _ (name : Bor (List ℕ)) {named : Reader C} (u : Reads meaning input opened named text_calls (λ y x. y.now ≡ x) (Ok name)) where
     -- its name is read

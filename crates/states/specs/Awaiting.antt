@@ -2,7 +2,7 @@
 use Rattle.std.specs.Prelude.{◌≡◌, ℕ, Bool, true, false, List, [], ◌∷◌, ◌++◌, length, MatchResult, Ok, Result}
 use Rattle.std.specs.List.{flat_map}
 use Rattle.column.specs.Meaning.{Meaning}
-use Rattle.document.specs.Calls.{Call, val, end, text, none, some}
+use Rattle.document.specs.Calls.{Call, val, end, text, none, some, tuple}
 use Rattle.document.specs.Said.{asked}
 use Rattle.document.specs.Reader.{Reading, Reply, reply, refuse, answer}
 use Rattle.document.specs.Replay.{hearing}
@@ -52,6 +52,14 @@ length_calls items n = announces items n ∷ []
 -- a text
 abbrev pub text_calls : List ℕ → List Call
 text_calls bs = val (text bs) ∷ []
+
+-- the beginning of a tuple
+abbrev pub tuple_calls : ℕ → Unit {0} → List Call
+tuple_calls n begun = val (tuple n) ∷ []
+
+-- the end of a list, a map or a tuple
+abbrev pub end_calls : Unit {0} → List Call
+end_calls ended = end ∷ []
 
 -- a list or a map of items that are told so
 abbrev pub items_calls : {X : Type 0} → Items → (X → List Call) → List X → List Call

@@ -3,7 +3,7 @@
 ghost use Rattle.std.specs.Prelude.{◌≡◌, ℕ, List};
 ghost use Rattle.states.specs.Asking.{asks_length};
 ghost use Rattle.states.specs.Documents.{number_calls};
-ghost use Rattle.states.specs.Awaiting.{Reads, option_calls, length_calls, text_calls};
+ghost use Rattle.states.specs.Awaiting.{Reads, option_calls, length_calls, text_calls, tuple_calls, end_calls};
 
 use crate::message::MessageError;
 use column::interface::Column;
@@ -80,6 +80,22 @@ pub(crate) fn text<'a, C: Column>(
         Answer::Text { place, length } => Ok(text_at(input, place, length)?),
         _ => unreachable(),
     }
+}
+
+/// The beginning of a tuple of so many values.
+pub(crate) fn tuple<C: Column>(reader: &mut Reader<'_, C>, length: u32) -> Result<(), MessageError>
+    ensures { (input : List ℕ) → Reads C.Column.meaning input reader.old reader.new (tuple_calls length) (λ y x. y ≡ x) result }
+{
+    reader.ask(Question::Tuple(length))?;
+    Ok(())
+}
+
+/// The end of a list, a map or a tuple.
+pub(crate) fn end<C: Column>(reader: &mut Reader<'_, C>) -> Result<(), MessageError>
+    ensures { (input : List ℕ) → Reads C.Column.meaning input reader.old reader.new end_calls (λ y x. y ≡ x) result }
+{
+    reader.ask(Question::End)?;
+    Ok(())
 }
 
 /// Questions in turn, up to the first that is refused.

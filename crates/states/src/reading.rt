@@ -10,13 +10,12 @@ ghost use Rattle.states.specs.Documents.{number_calls, grant_calls, seat_calls, 
 ghost use Rattle.states.specs.Awaiting.{Awaits, Reads, items_calls};
 ghost use Rattle.states.specs.Returned.{SameSeat, SameState, Returned, Receives};
 
-use crate::asking::{Items, is_some, length, number, text};
+use crate::asking::{Items, end, is_some, length, number, text, tuple};
 use crate::message::MessageError;
 use crate::state::{Grant, Seat, TableState};
 use column::interface::Column;
 use de::reader::Reader;
 use de::reader::questions::Parts;
-use document::questions::Question;
 use std::alloc::Global;
 
 /// A seat as it was read. Its name stays where it stands in the message.
@@ -120,7 +119,7 @@ fn read_list<C: Column, T: Read>(
     for _ in 0..length(reader, items)? {
         list.push(T::read(reader)?)?;
     }
-    reader.ask(Question::End)?;
+    end(reader)?;
     Ok(list)
 }
 
@@ -132,11 +131,11 @@ fn read_seat<'a, C: Column>(
 ) -> Result<ReadSeat<'a>, MessageError>
     ensures { Reads C.Column.meaning input.now reader.old reader.new seat_calls SameSeat result }
 {
-    reader.ask(Question::Tuple(3))?;
+    tuple(reader, 3)?;
     let name = text(reader, input)?;
     let cards = read_list(heap, reader, Items::Elements)?;
     let grants = read_list(heap, reader, Items::Pairs)?;
-    reader.ask(Question::End)?;
+    end(reader)?;
     Ok(ReadSeat {
         name,
         cards,
@@ -157,7 +156,7 @@ fn read_seats<'a, C: Column>(
     for _ in 0..length(reader, Items::Elements)? {
         seats.push(read_seat(heap, reader, input)?)?;
     }
-    reader.ask(Question::End)?;
+    end(reader)?;
     Ok(seats)
 }
 

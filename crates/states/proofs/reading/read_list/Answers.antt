@@ -1,7 +1,5 @@
-use Rattle.std.proofs.Common.{◌≡◌, Err, Ok, vec_items, refl, sym, subst, ◌+◌}
-use Rattle.document.specs.declared.questions.Question.TheVariants as questions
-use Rattle.document.specs.Calls.{end}
-use Rattle.states.proofs.Awaited.{asked-takes, no-memory}
+use Rattle.std.proofs.Common.{◌≡◌, vec_items, sym, subst, ◌+◌}
+use Rattle.states.proofs.Awaited.{no-memory}
 use Rattle.states.proofs.Listed.{Listed, zip-equal, none-read, length-failed, item-read, item-failed, end-failed, list-read}
 use Rattle.states.proofs.reading.read_list.Goals as goal
 
@@ -27,12 +25,9 @@ loop-preserved g c input =
     subst (Listed g.C.Column.meaning input c.args.reader.now c.read.new.reader c.args.items g.T.Read.calls (λ y x. y ≡ x) c.in_ok-end.end (c.loop.counter + 1)) (sym c.in_ok-push.ensures.items)
     (item-read c.args.items g.T.Read.calls (λ y x. y ≡ x) c.in_ok-end.end c.loop.counter (vec_items c.loop.list) (c.loop.invariant input) c.in_ok-read.field-0 c.loop-test.true (c.in_ok-read.ensures input))
 
-pub returns-in_err-ask : goal.returns-in_err-ask
-returns-in_err-ask g c input =
-    let asked = asked-takes g.C.Column.meaning input c.loop.reader c.ask.new.self (λ u. end) questions.End (Err c.in_err-ask.field-0.0) (λ u. refl) c.in_err-ask.ensures.told c.in_err-ask.ensures.lengths c.in_err-ask.ensures.kind c.in_err-ask.ensures.input in
-    end-failed c.args.items g.T.Read.calls (λ y x. y ≡ x) c.in_ok-end.end c.loop.counter (vec_items c.loop.list) (c.loop.invariant input) _ c.from_residual-in_err-ask.result c.in_err-ask.field-0.0 c.loop-test.false asked
+pub returns-in_err-end-2 : goal.returns-in_err-end-2
+returns-in_err-end-2 g c input =
+    end-failed c.args.items g.T.Read.calls (λ y x. y ≡ x) c.in_ok-end.end c.loop.counter (vec_items c.loop.list) (c.loop.invariant input) _ c.from_residual-in_err-end-2.result c.in_err-end-2.field-0.0 c.loop-test.false c.from_residual-in_err-end-2.ensures.1 (c.in_err-end-2.ensures input)
 
 pub returns : goal.returns
-returns g c input =
-    let asked = asked-takes g.C.Column.meaning input c.loop.reader c.ask.new.self (λ u. end) questions.End (Ok c.in_ok-ask.field-0) (λ u. refl) c.in_ok-ask.ensures.told c.in_ok-ask.ensures.lengths c.in_ok-ask.ensures.kind c.in_ok-ask.ensures.input in
-    list-read c.args.items g.T.Read.calls (λ y x. y ≡ x) c.in_ok-end.end c.loop.counter (vec_items c.loop.list) (c.loop.invariant input) _ c.loop.list c.in_ok-ask.field-0 (zip-equal (vec_items c.loop.list)) c.loop-test.false asked
+returns g c input = list-read c.args.items g.T.Read.calls (λ y x. y ≡ x) c.in_ok-end.end c.loop.counter (vec_items c.loop.list) (c.loop.invariant input) _ c.loop.list (zip-equal (vec_items c.loop.list)) c.loop-test.false (c.in_ok-end-2.ensures input)

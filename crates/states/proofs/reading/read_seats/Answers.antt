@@ -1,10 +1,8 @@
-use Rattle.std.proofs.Common.{Err, Ok, ◌+◌, vec_items, refl, sym, subst}
-use Rattle.document.specs.declared.questions.Question.TheVariants as questions
-use Rattle.document.specs.Calls.{end}
+use Rattle.std.proofs.Common.{◌+◌, vec_items, sym, subst}
 use Rattle.states.specs.declared.asking.Items.TheVariants.{Elements}
 use Rattle.states.specs.Documents.{seat_calls}
 use Rattle.states.specs.Returned.{SameSeat}
-use Rattle.states.proofs.Awaited.{asked-takes, no-memory}
+use Rattle.states.proofs.Awaited.{no-memory}
 use Rattle.states.proofs.Listed.{Listed, none-read, length-failed, item-read, item-failed, end-failed, list-read}
 use Rattle.states.proofs.reading.read_seats.Goals as goal
 
@@ -30,12 +28,9 @@ loop-preserved g c =
     subst (Listed g.C.Column.meaning c.args.input.now c.args.reader.now c.read_seat.new.reader Elements seat_calls SameSeat c.in_ok-end.end (c.loop.counter + 1)) (sym c.in_ok-push.ensures.items)
     (item-read Elements seat_calls SameSeat c.in_ok-end.end c.loop.counter (vec_items c.loop.seats) c.loop.invariant c.in_ok-read_seat.field-0 c.loop-test.true c.in_ok-read_seat.ensures)
 
-pub returns-in_err-ask : goal.returns-in_err-ask
-returns-in_err-ask g c =
-    let ended = asked-takes g.C.Column.meaning c.args.input.now c.loop.reader c.ask.new.self (λ u. end) questions.End (Err c.in_err-ask.field-0.0) (λ u. refl) c.in_err-ask.ensures.told c.in_err-ask.ensures.lengths c.in_err-ask.ensures.kind c.in_err-ask.ensures.input in
-    end-failed Elements seat_calls SameSeat c.in_ok-end.end c.loop.counter (vec_items c.loop.seats) c.loop.invariant _ c.from_residual-in_err-ask.result c.in_err-ask.field-0.0 c.loop-test.false ended
+pub returns-in_err-end-2 : goal.returns-in_err-end-2
+returns-in_err-end-2 g c =
+    end-failed Elements seat_calls SameSeat c.in_ok-end.end c.loop.counter (vec_items c.loop.seats) c.loop.invariant _ c.from_residual-in_err-end-2.result c.in_err-end-2.field-0.0 c.loop-test.false c.from_residual-in_err-end-2.ensures.1 (c.in_err-end-2.ensures c.args.input.now)
 
 pub returns : goal.returns
-returns g c =
-    let ended = asked-takes g.C.Column.meaning c.args.input.now c.loop.reader c.ask.new.self (λ u. end) questions.End (Ok c.in_ok-ask.field-0) (λ u. refl) c.in_ok-ask.ensures.told c.in_ok-ask.ensures.lengths c.in_ok-ask.ensures.kind c.in_ok-ask.ensures.input in
-    list-read Elements seat_calls SameSeat c.in_ok-end.end c.loop.counter (vec_items c.loop.seats) c.loop.invariant _ c.loop.seats c.in_ok-ask.field-0 (λ xs same. same) c.loop-test.false ended
+returns g c = list-read Elements seat_calls SameSeat c.in_ok-end.end c.loop.counter (vec_items c.loop.seats) c.loop.invariant _ c.loop.seats (λ xs same. same) c.loop-test.false (c.in_ok-end-2.ensures c.args.input.now)
