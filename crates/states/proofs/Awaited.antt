@@ -19,17 +19,11 @@ use Rattle.de.specs.Readers.{StandsFor, KeepsLengths}
 use Rattle.de.proofs.Sizes.{lengths_trans}
 use Rattle.states.specs.declared.message.MessageError.{MessageError}
 use Rattle.states.specs.declared.message.MessageError.TheVariants.{Memory}
-use Rattle.states.specs.Awaiting.{HeardAs, Hears, Awaits, Takes, Reads}
+use Rattle.states.specs.Awaiting.{HeardAs, Hears, Awaits, Reads}
 
--- ---- want of memory
-
--- the error of a part is the error of the whole
-pub same-error : {Y : Type 0} (e : MessageError) (s : Result Y MessageError) → IsErrAnd s (λ y. y ≡ e) → e ≡ Memory → IsErrAnd s (λ y. y ≡ Memory)
-same-error e s fails is = subst (λ m. IsErrAnd s (λ y. y ≡ m)) is fails
-
--- .. which may be want of memory
-pub wanting : {Y : Type 0} (P : Y → Type 0) (s : Result Y MessageError) → IsErrAnd s (λ y. y ≡ Memory) → MatchResult s P (λ e. e ≡ Memory)
-wanting P s fails = rw (passed_on s Memory fails) refl
+-- the error of a part, which is want of memory, is the error of the whole
+pub wanting : {Y : Type 0} (P : Y → Type 0) (s : Result Y MessageError) (e : MessageError) → IsErrAnd s (λ y. y ≡ e) → e ≡ Memory → MatchResult s P (λ e. e ≡ Memory)
+wanting P s e fails is = rw (passed_on s e fails) is
 
 -- ---- one after another
 
@@ -43,51 +37,51 @@ pub begun : {C X : Type 0} (meaning : C → Meaning) (input : List ℕ) (r : Rea
 begun meaning input r calls = record { lengths = record { nodes = refl; slots = refl }; along = λ x rest w. (tt, w) }
 
 -- a part of the value is read
-pub read-next : {C X P A E : Type 0} {meaning : C → Meaning} {input : List ℕ} {old r new : Reader C} {calls left : X → List Call} {Knows : X → Type 0} {parts : P → List Call} {Same : A → P → Type 0} {Fails : E → Type 0} {a : A}
+pub read-next : {C X P A : Type 0} {meaning : C → Meaning} {input : List ℕ} {old r new : Reader C} {calls left : X → List Call} {Knows : X → Type 0} {parts : P → List Call} {Same : A → P → Type 0} {a : A}
     (Knows' : X → Type 0) (left' : X → List Call) → ((x : X) → Knows x → (p : P) × (left x ≡ parts p ++ left' x) × (Same a p → Knows' x))
-    → Along meaning input old r calls Knows left → Takes meaning input r new parts Same Fails (Ok a) → Along meaning input old new calls Knows' left'
+    → Along meaning input old r calls Knows left → Reads meaning input r new parts Same (Ok a) → Along meaning input old new calls Knows' left'
 read-next {meaning = meaning} {input = input} {r = r} {parts = parts} Knows' left' split before t = record {
   lengths = lengths_trans before.lengths t.lengths;
   along = λ x rest w.
       let (k, w') = before.along x rest w in
       let (p, is, knows) = split x k in
-      let (same, next) = t.takes p (left' x ++ rest) (subst (Awaits meaning input r) (ap (λ cs. cs ++ rest) is ∙ append_assoc (parts p) (left' x) rest) w') in
+      let (same, next) = t.reads p (left' x ++ rest) (subst (Awaits meaning input r) (ap (λ cs. cs ++ rest) is ∙ append_assoc (parts p) (left' x) rest) w') in
       (knows same, next);
 }
 
 -- .. or is not, for want of memory
-pub read-failed : {C X P A Y E : Type 0} {meaning : C → Meaning} {input : List ℕ} {old r new : Reader C} {calls left : X → List Call} {Knows : X → Type 0} {parts : P → List Call} {Same : A → P → Type 0} {Fails : E → Type 0} {e : E}
-    (after : X → List Call) (Same' : Y → X → Type 0) (s : Result Y MessageError) → ((x : X) → Knows x → (p : P) × (left x ≡ parts p ++ after x)) → (Fails e → IsErrAnd s (λ y. y ≡ Memory))
-    → Along meaning input old r calls Knows left → Takes meaning input r new parts Same Fails (Err e) → Reads meaning input old new calls Same' s
+pub read-failed : {C X P A Y : Type 0} {meaning : C → Meaning} {input : List ℕ} {old r new : Reader C} {calls left : X → List Call} {Knows : X → Type 0} {parts : P → List Call} {Same : A → P → Type 0} {e : MessageError}
+    (after : X → List Call) (Same' : Y → X → Type 0) (s : Result Y MessageError) → ((x : X) → Knows x → (p : P) × (left x ≡ parts p ++ after x)) → IsErrAnd s (λ y. y ≡ e)
+    → Along meaning input old r calls Knows left → Reads meaning input r new parts Same (Err e) → Reads meaning input old new calls Same' s
 read-failed {meaning = meaning} {input = input} {r = r} {parts = parts} after Same' s split fails before t = record {
   lengths = lengths_trans before.lengths t.lengths;
-  takes = λ x rest w.
+  reads = λ x rest w.
       let (k, w') = before.along x rest w in
       let (p, is) = split x k in
-      let e = t.takes p (after x ++ rest) (subst (Awaits meaning input r) (ap (λ cs. cs ++ rest) is ∙ append_assoc (parts p) (after x) rest) w') in
-      wanting _ s (fails e);
+      let e = t.reads p (after x ++ rest) (subst (Awaits meaning input r) (ap (λ cs. cs ++ rest) is ∙ append_assoc (parts p) (after x) rest) w') in
+      wanting _ s _ fails e;
 }
 
 -- there was no memory for what was read
 pub no-memory : {C X Y : Type 0} {meaning : C → Meaning} {input : List ℕ} {old r : Reader C} {calls left : X → List Call} {Knows : X → Type 0} (Same : Y → X → Type 0) (s : Result Y MessageError) → IsErrAnd s (λ y. y ≡ Memory)
     → Along meaning input old r calls Knows left → Reads meaning input old r calls Same s
-no-memory Same s fails before = record { lengths = before.lengths; takes = λ x rest w. wanting _ s fails }
+no-memory Same s fails before = record { lengths = before.lengths; reads = λ x rest w. wanting _ s Memory fails refl }
 
 -- all of it is read
-pub read-all : {C X Y E : Type 0} {meaning : C → Meaning} {input : List ℕ} {old r : Reader C} {calls left : X → List Call} {Knows : X → Type 0} {Fails : E → Type 0} (y : Y) (Same : Y → X → Type 0) → ((x : X) → Knows x → (left x ≡ []) × Same y x)
-    → Along meaning input old r calls Knows left → Takes meaning input old r calls Same Fails (Ok y)
+pub read-all : {C X Y : Type 0} {meaning : C → Meaning} {input : List ℕ} {old r : Reader C} {calls left : X → List Call} {Knows : X → Type 0} (y : Y) (Same : Y → X → Type 0) → ((x : X) → Knows x → (left x ≡ []) × Same y x)
+    → Along meaning input old r calls Knows left → Reads meaning input old r calls Same (Ok y)
 read-all {meaning = meaning} {input = input} {r = r} y Same whole before = record {
   lengths = before.lengths;
-  takes = λ x rest w.
+  reads = λ x rest w.
       let (k, w') = before.along x rest w in
       let (is, same) = whole x k in
       (same, subst (Awaits meaning input r) (ap (λ cs. cs ++ rest) is) w');
 }
 
 -- .. and nothing follows
-pub whole-read : {C X Y E : Type 0} {meaning : C → Meaning} {input : List ℕ} {old new : Reader C} {calls : X → List Call} {Same : Y → X → Type 0} {Fails : E → Type 0} {r : Result Y E} → Takes meaning input old new calls Same Fails r
-    → (x : X) → Awaits meaning input old (calls x) → MatchResult r (λ y. Same y x × Awaits meaning input new []) Fails
-whole-read {meaning = meaning} {input = input} {old = old} {calls = calls} t x w = t.takes x [] (subst (Awaits meaning input old) (sym (append-nil (calls x))) w)
+pub whole-read : {C X Y : Type 0} {meaning : C → Meaning} {input : List ℕ} {old new : Reader C} {calls : X → List Call} {Same : Y → X → Type 0} {r : Result Y MessageError} → Reads meaning input old new calls Same r
+    → (x : X) → Awaits meaning input old (calls x) → MatchResult r (λ y. Same y x × Awaits meaning input new []) (λ e. e ≡ Memory)
+whole-read {meaning = meaning} {input = input} {old = old} {calls = calls} t x w = t.reads x [] (subst (Awaits meaning input old) (sym (append-nil (calls x))) w)
 
 -- ---- a document from its beginning
 

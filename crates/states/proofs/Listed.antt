@@ -9,7 +9,7 @@ use Rattle.de.specs.declared.reader.Reader.{Reader}
 use Rattle.states.specs.declared.asking.Items.{Items}
 use Rattle.states.specs.declared.message.MessageError.{MessageError}
 use Rattle.states.specs.Awaiting.{Reads, length_calls, items_calls, end_calls}
-use Rattle.states.proofs.Awaited.{Along, begun, read-next, read-failed, read-all, same-error}
+use Rattle.states.proofs.Awaited.{Along, begun, read-next, read-failed, read-all}
 
 -- the item at a place, between those before and those after it
 pieces-suc : {X : Type 0} (i : ℕ) (xs : List X) → i < length xs → (x : X) × (drop i xs ≡ x ∷ drop (suc i) xs) × (take (suc i) xs ≡ take i xs ++ x ∷ [])
@@ -54,7 +54,7 @@ module _ {C X Y : Type 0} {meaning : C → Meaning} {input : List ℕ} {old : Re
   module _ {L : Type 0} (Is : L → List X → Type 0) (s : Result L MessageError) where
     -- .. was not told
     pub length-failed : {new : Reader C} (e : MessageError) → IsErrAnd s (λ y. y ≡ e) → Reads meaning input old new (length_calls items) (λ y x. y ≡ x) (Err e) → Reads meaning input old new (items_calls items calls) Is s
-    length-failed e fails t = read-failed (left calls 0) Is s (λ xs k. (length xs, refl)) (same-error e s fails) (begun meaning input old (items_calls items calls)) t
+    length-failed e fails t = read-failed (left calls 0) Is s (λ xs k. (length xs, refl)) fails (begun meaning input old (items_calls items calls)) t
 
   module _ {now : Reader C} (n i : ℕ) (ys : List Y) (before : Listed meaning input old now items calls Same n i ys) where
     -- the next item's calls
@@ -72,7 +72,7 @@ module _ {C X Y : Type 0} {meaning : C → Meaning} {input : List ℕ} {old : Re
     module _ {L : Type 0} (Is : L → List X → Type 0) (s : Result L MessageError) where
       -- .. is not read
       pub item-failed : {new : Reader C} (e : MessageError) → i < n → IsErrAnd s (λ y. y ≡ e) → Reads meaning input now new calls Same (Err e) → Reads meaning input old new (items_calls items calls) Is s
-      item-failed e l fails t = read-failed (left calls (i + 1)) Is s (λ xs k. let (x, is, more) = next l xs k in (x, is)) (same-error e s fails) before t
+      item-failed e l fails t = read-failed (left calls (i + 1)) Is s (λ xs k. let (x, is, more) = next l xs k in (x, is)) fails before t
 
     -- the end
     last : n ≤ i → (xs : List X) → Known Same n i ys xs → left calls i xs ≡ end ∷ []
@@ -81,7 +81,7 @@ module _ {C X Y : Type 0} {meaning : C → Meaning} {input : List ℕ} {old : Re
     -- .. is not read
     pub end-failed : {new : Reader C} {L : Type 0} (Is : L → List X → Type 0) (s : Result L MessageError) (e : MessageError) → n ≤ i → IsErrAnd s (λ y. y ≡ e) → Reads meaning input now new end_calls (λ y x. y ≡ x) (Err e)
         → Reads meaning input old new (items_calls items calls) Is s
-    end-failed Is s e l fails t = read-failed (λ xs. []) Is s (λ xs k. (tt {0}, last l xs k)) (same-error e s fails) before t
+    end-failed Is s e l fails t = read-failed (λ xs. []) Is s (λ xs k. (tt {0}, last l xs k)) fails before t
 
     -- all items are read, and the end
     pub list-read : {new : Reader C} {L : Type 0} (Is : L → List X → Type 0) (list : L) → ((xs : List X) → AllZip Same ys xs → Is list xs) → n ≤ i → Reads meaning input now new end_calls (λ y x. y ≡ x) (Ok tt)

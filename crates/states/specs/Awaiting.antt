@@ -31,14 +31,10 @@ pub record Awaits {C : Type 0} (meaning : C → Meaning) (input : List ℕ) (r :
   pub over : r.input.now ≡ input
   pub hears : Hears (meaning r.kind.now) input reading cs
 
--- The tables keep their lengths; and whatever value's calls the reader awaited, and others after them: it is what was read, and the reader awaits the others; or it failed so.
-pub record Takes {C X Y E : Type 0} (meaning : C → Meaning) (input : List ℕ) (old new : Reader C) (calls : X → List Call) (Same : Y → X → Type 0) (Fails : E → Type 0) (r : Result Y E) : Type 0 where
+-- The tables keep their lengths; and of whatever value a reader awaited the calls, and others after them: it is what was read, and the others are awaited, or there was no memory.
+pub record Reads {C X Y : Type 0} (meaning : C → Meaning) (input : List ℕ) (old new : Reader C) (calls : X → List Call) (Same : Y → X → Type 0) (r : Result Y MessageError) : Type 0 where
   pub lengths : KeepsLengths old new
-  pub takes : (x : X) (rest : List Call) → Awaits meaning input old (calls x ++ rest) → MatchResult r (λ y. Same y x × Awaits meaning input new rest) Fails
-
--- .. and only for want of memory
-abbrev pub Reads : {C X Y : Type 0} → (C → Meaning) → List ℕ → Reader C → Reader C → (X → List Call) → (Y → X → Type 0) → Result Y MessageError → Type 0
-Reads meaning input old new calls Same r = Takes meaning input old new calls Same (λ e. e ≡ Memory) r
+  pub reads : (x : X) (rest : List Call) → Awaits meaning input old (calls x ++ rest) → MatchResult r (λ y. Same y x × Awaits meaning input new rest) (λ e. e ≡ Memory)
 
 -- whether a value follows
 abbrev pub option_calls : Bool → List Call

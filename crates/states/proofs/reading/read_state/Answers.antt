@@ -1,10 +1,10 @@
 use Rattle.std.proofs.Common.{Err}
-use Rattle.states.proofs.Awaited.{whole-read, finish-accepted, same-error, wanting}
+use Rattle.states.proofs.Awaited.{whole-read, finish-accepted, wanting}
 use Rattle.states.proofs.reading.read_state.Goals as goal
 
 pub returns-in_err-seats-clause-reads : goal.returns-in_err-seats-clause-reads
 returns-in_err-seats-clause-reads g c s w =
-    wanting _ c.from_residual.result (same-error c.in_err-seats.field-0.0 c.from_residual.result c.from_residual.ensures.1 (whole-read c.in_err-seats.ensures s.seats.now w))
+    wanting _ c.from_residual.result c.in_err-seats.field-0.0 c.from_residual.ensures.1 (whole-read c.in_err-seats.ensures s.seats.now w)
 
 pub returns-in_err-finish-clause-reads : goal.returns-in_err-finish-clause-reads
 returns-in_err-finish-clause-reads g c s w =
