@@ -3,3 +3,7 @@ pub mod Sent
 pub mod Asked
 pub mod Returned
 pub mod Sizes
+pub mod Awaited
+pub mod Grants
+pub mod Listed
+pub mod Seats

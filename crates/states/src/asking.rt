@@ -1,7 +1,9 @@
 //! Questions to a reader, each for one kind of value.
 
-ghost use Rattle.std.specs.Prelude.{◌≡◌};
+ghost use Rattle.std.specs.Prelude.{◌≡◌, ℕ, List};
 ghost use Rattle.states.specs.Asking.{asks_length};
+ghost use Rattle.states.specs.Documents.{number_calls};
+ghost use Rattle.states.specs.Awaiting.{Reads, option_calls, length_calls, text_calls, tuple_calls, end_calls};
 
 use crate::message::MessageError;
 use column::interface::Column;
@@ -14,7 +16,9 @@ use document::scalars::Scalar;
 // Stays: a function for each question, and not one over the question and a closure: it would require of the closure, for each answer that fits, what the arms of these matches show.
 
 /// A number of eight bits.
-pub(crate) fn number<C: Column>(reader: &mut Reader<'_, C>) -> Result<u8, MessageError> {
+pub(crate) fn number<C: Column>(reader: &mut Reader<'_, C>) -> Result<u8, MessageError>
+    ensures { (input : List ℕ) → Reads C.Column.meaning input reader.old reader.new number_calls (λ y x. y ≡ x) result }
+{
     match reader.ask(Question::Scalar(Scalar::U8))? {
         Answer::U8(number) => Ok(number),
         _ => unreachable(),
@@ -22,7 +26,9 @@ pub(crate) fn number<C: Column>(reader: &mut Reader<'_, C>) -> Result<u8, Messag
 }
 
 /// Whether a value follows: `some`, or `none`.
-pub(crate) fn is_some<C: Column>(reader: &mut Reader<'_, C>) -> Result<bool, MessageError> {
+pub(crate) fn is_some<C: Column>(reader: &mut Reader<'_, C>) -> Result<bool, MessageError>
+    ensures { (input : List ℕ) → Reads C.Column.meaning input reader.old reader.new option_calls (λ y x. y ≡ x) result }
+{
     match reader.ask(Question::Option)? {
         Answer::Some => Ok(true),
         Answer::None => Ok(false),
@@ -54,7 +60,9 @@ impl Items {
 pub(crate) fn length<C: Column>(
     reader: &mut Reader<'_, C>,
     items: Items,
-) -> Result<u64, MessageError> {
+) -> Result<u64, MessageError>
+    ensures { (input : List ℕ) → Reads C.Column.meaning input reader.old reader.new (length_calls items) (λ y x. y ≡ x) result }
+{
     match reader.ask(items.question())? {
         Answer::Seq(length) | Answer::Map(length) => Ok(length),
         _ => unreachable(),
@@ -65,11 +73,29 @@ pub(crate) fn length<C: Column>(
 pub(crate) fn text<'a, C: Column>(
     reader: &mut Reader<'_, C>,
     input: &'a [u8],
-) -> Result<&'a [u8], MessageError> {
+) -> Result<&'a [u8], MessageError>
+    ensures { Reads C.Column.meaning input.now reader.old reader.new text_calls (λ y x. y.now ≡ x) result }
+{
     match reader.ask(Question::Text)? {
         Answer::Text { place, length } => Ok(text_at(input, place, length)?),
         _ => unreachable(),
     }
+}
+
+/// The beginning of a tuple of so many values.
+pub(crate) fn tuple<C: Column>(reader: &mut Reader<'_, C>, length: u32) -> Result<(), MessageError>
+    ensures { (input : List ℕ) → Reads C.Column.meaning input reader.old reader.new (tuple_calls length) (λ y x. y ≡ x) result }
+{
+    reader.ask(Question::Tuple(length))?;
+    Ok(())
+}
+
+/// The end of a list, a map or a tuple.
+pub(crate) fn end<C: Column>(reader: &mut Reader<'_, C>) -> Result<(), MessageError>
+    ensures { (input : List ℕ) → Reads C.Column.meaning input reader.old reader.new end_calls (λ y x. y ≡ x) result }
+{
+    reader.ask(Question::End)?;
+    Ok(())
 }
 
 /// Questions in turn, up to the first that is refused.

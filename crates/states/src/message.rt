@@ -2,13 +2,14 @@
 
 ghost use Rattle.std.specs.Prelude.{◌≡◌, List, MatchResult};
 ghost use Rattle.document.specs.Calls.{Call};
-ghost use Rattle.document.specs.Bytes.{bytes};
 ghost use Rattle.document.specs.WriteOut.{write_out};
+ghost use Rattle.ser.specs.Moves.{sheets};
 ghost use Rattle.ser.specs.Standing.{Stands};
+ghost use Rattle.ser.specs.Tables.{sizes_of};
 ghost use Rattle.states.specs.declared.message.MessageError.TheVariants.{Memory, Refused};
 ghost use Rattle.replay.specs.Given.{sizes_for};
 ghost use Rattle.states.specs.Documents.{state_calls};
-ghost use Rattle.states.specs.Sending.{Fails, SendFails};
+ghost use Rattle.states.specs.Sending.{Conveys, Fails, SendFails};
 
 use crate::state::TableState;
 use crate::tables::CELLS;
@@ -21,7 +22,7 @@ use std::alloc::{AllocError, AllocFailed, Global};
 use std::fmt;
 
 /// Room for the bytes of a state.
-const ROOM: usize = 256;
+pub(crate) const ROOM: usize = 256;
 
 /// Why there is no message, or a message is no state.
 #[derive(Drop)]
@@ -70,7 +71,7 @@ pub(crate) fn message<C: Column>(
     closed: &Closed,
     kind: &C,
 ) -> Result<Vec<u8>, MessageError>
-    ensures { (cs : List Call) → Stands closed.now.desk cs → MatchResult result (λ message. message.items ≡ bytes (C.Column.meaning kind.now) cs) (Fails (write_out (C.Column.meaning kind.now) cs CELLS ROOM)) }
+    ensures { (cs : List Call) → Stands closed.now.desk cs → MatchResult result (λ message. Conveys (sizes_of (sheets closed.now.desk.tables)) (C.Column.meaning kind.now) cs message.items) (Fails (write_out (C.Column.meaning kind.now) cs CELLS ROOM)) }
 {
     let mut scratch = vec![in heap; 0u64; CELLS]?;
     let mut output = vec![in heap; 0u8; ROOM]?;
@@ -86,7 +87,7 @@ pub(crate) fn send<C: Column>(
     state: TableState<'_>,
     kind: &C,
 ) -> (Result<Vec<u8>, MessageError>, Parts)
-    ensures message { MatchResult result.0 (λ message. message.items ≡ bytes (C.Column.meaning kind.now) (state_calls state.entry)) (SendFails (sizes_for tables) (write_out (C.Column.meaning kind.now) (state_calls state.entry) CELLS ROOM) (state_calls state.entry)) }
+    ensures message { MatchResult result.0 (λ message. Conveys (sizes_for tables) (C.Column.meaning kind.now) (state_calls state.entry) message.items) (SendFails (sizes_for tables) (write_out (C.Column.meaning kind.now) (state_calls state.entry) CELLS ROOM) (state_calls state.entry)) }
     ensures tables { sizes_for result.1 ≡ sizes_for tables }
 {
     let (closed, answer) = told(tables, state);

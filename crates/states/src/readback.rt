@@ -1,35 +1,61 @@
 //! The states, each sent under a kind and read back under the same.
 
+ghost use Rattle.std.specs.Prelude.{◌≡◌, vec_len};
+ghost use Rattle.replay.specs.Given.{sizes_for};
+ghost use Rattle.states.specs.ComingBack.{ComesBack};
+
 use crate::examples::{DEALT, EMPTY, PLAYED};
 use crate::looking::show_looks;
-use crate::message::{MessageError, send};
+use crate::message::{MessageError, ROOM, send};
 use crate::reading::{ReadState, receive};
 use crate::shown::Size;
 use crate::state::TableState;
-use crate::tables::Tables;
+use crate::tables::{CELLS, Tables};
 use column::flat::Flat;
 use column::interface::Column;
 use column::short::Short;
 use column::steps::Steps;
+use std::alloc::Global;
 use std::io;
 
-/// Prints whether what was read is what was written, and who may look into which hand by it.
-fn show_read(
-    rt: &HostRuntime,
-    read: &Result<ReadState<'_>, MessageError>,
-    written: TableState<'_>,
-) -> io::Result<()> {
-    match read {
-        Ok(state) => {
-            let same = state.is(written);
-            println!(rt; "    what was read is what was written: {same}")?;
-            show_looks(rt, state)
+/// A state that was sent and received: its message, and what was read of it.
+#[derive(Drop)]
+struct Back<'a> {
+    message: &'a [u8],
+    state: ReadState<'a>,
+}
+
+/// Sends a state under a kind, as this message, and receives it under the same; and the tables again, as long as they were.
+fn returned<'a, C: Column>(
+    heap: Global,
+    kind: &C,
+    state: TableState<'_>,
+    tables: Tables,
+    message: &'a mut Vec<u8>,
+) -> (Result<Back<'a>, MessageError>, Tables)
+    ensures back { ComesBack (C.Column.meaning kind.now) CELLS ROOM tables state.entry result.0 }
+    ensures writer { sizes_for result.1.writer ≡ sizes_for tables.writer }
+    ensures nodes { vec_len result.1.reader.nodes ≡ vec_len tables.reader.nodes }
+    ensures slots { vec_len result.1.reader.slots ≡ vec_len tables.reader.slots }
+{
+    let Tables { writer, reader } = tables;
+    let (sent, writer) = send(heap, writer, state, kind);
+    match sent {
+        Ok(bytes) => {
+            *message = bytes;
+            let message = message.as_slice();
+            let (read, reader) = receive(heap, reader, message, kind);
+            let tables = Tables { writer, reader };
+            match read {
+                Ok(state) => (Ok(Back { message, state }), tables),
+                Err(error) => (Err(error), tables),
+            }
         }
-        Err(error) => println!(rt; "    {error}"),
+        Err(error) => (Err(error), Tables { writer, reader }),
     }
 }
 
-/// Sends a state under a kind, and reads it back.
+/// Sends a state under a kind, reads it back, and prints whether what was read is what was written, and who may look into which hand by it.
 fn show_return<C: Column>(
     rt: &HostRuntime,
     title: &str,
@@ -37,22 +63,19 @@ fn show_return<C: Column>(
     state: TableState<'_>,
     tables: Tables,
 ) -> io::Result<Tables> {
-    let Tables { writer, reader } = tables;
-    let (message, writer) = send(rt.alloc(), writer, state, kind);
-    let reader = match message {
-        Ok(message) => {
-            let size = Size(message.len());
+    let mut message = Vec::new(rt.alloc());
+    let (back, tables) = returned(rt.alloc(), kind, state, tables, &mut message);
+    match back {
+        Ok(back) => {
+            let size = Size(back.message.len());
             println!(rt; "  {title}, {size}")?;
-            let (read, reader) = receive(rt.alloc(), reader, &message, kind);
-            show_read(rt, &read, state)?;
-            reader
+            let same = back.state.is(state);
+            println!(rt; "    what was read is what was written: {same}")?;
+            show_looks(rt, &back.state)?;
         }
-        Err(error) => {
-            println!(rt; "  {title}: {error}")?;
-            reader
-        }
-    };
-    Ok(Tables { writer, reader })
+        Err(error) => println!(rt; "  {title}: {error}")?,
+    }
+    Ok(tables)
 }
 
 /// Sends a state under each kind, and reads it back. Each reader goes on with the tables of the one before.

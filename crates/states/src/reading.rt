@@ -1,16 +1,21 @@
 //! A state, read back by the questions of its shape. The first refusal ends the reading.
 
-ghost use Rattle.std.specs.Prelude.{◌≡◌, ◌↔◌, IsTrue};
+ghost use Rattle.std.specs.Prelude.{◌≡◌, ◌↔◌, ℕ, List, IsTrue, vec_items, vec_len};
 ghost use Rattle.std.specs.List.{AllZip};
-ghost use Rattle.states.specs.Returned.{SameSeat, SameState};
+ghost use Rattle.document.specs.Calls.{Call as Said};
+ghost use Rattle.de.specs.Readers.{KeepsLengths};
+ghost use Rattle.states.specs.declared.asking.Items.TheVariants.{Elements};
+ghost use Rattle.states.specs.declared.state.TableState.{TableState};
+ghost use Rattle.states.specs.Documents.{number_calls, grant_calls, seat_calls, state_calls};
+ghost use Rattle.states.specs.Awaiting.{Awaits, Reads, items_calls};
+ghost use Rattle.states.specs.Returned.{SameSeat, SameState, Returned, Receives};
 
-use crate::asking::{Items, is_some, length, number, text};
+use crate::asking::{Items, end, is_some, length, number, text, tuple};
 use crate::message::MessageError;
 use crate::state::{Grant, Seat, TableState};
 use column::interface::Column;
 use de::reader::Reader;
 use de::reader::questions::Parts;
-use document::questions::Question;
 use std::alloc::Global;
 
 /// A seat as it was read. Its name stays where it stands in the message.
@@ -69,31 +74,52 @@ impl ReadState<'_> {
     }
 }
 
-/// A card, and the seat whose hand it opens, if any.
-fn read_grant<C: Column>(reader: &mut Reader<'_, C>) -> Result<Grant, MessageError> {
-    let card = number(reader)?;
-    let seat = if is_some(reader)? {
-        Some(number(reader)?)
-    } else {
-        None
-    };
-    Ok(Grant { card, seat })
+/// What can be read.
+trait Read: Drop {
+    ghost calls: { Self → List Said };
+
+    /// Reads it by the questions of its calls, up to the first that is refused.
+    fn read<C: Column>(reader: &mut Reader<'_, C>) -> Result<Self, MessageError>
+        ensures { (input : List ℕ) → Reads C.Column.meaning input reader.old reader.new calls (λ y x. y ≡ x) result };
 }
 
-/// A list or a map: its items, each as this reads it, and its end.
-fn read_list<'r, C: Column, T: Drop, F: FnMut(&mut Reader<'r, C>) -> Result<T, MessageError>>(
+/// A number of eight bits.
+impl Read for u8 {
+    ghost calls = { number_calls };
+
+    fn read<C: Column>(reader: &mut Reader<'_, C>) -> Result<u8, MessageError> {
+        number(reader)
+    }
+}
+
+/// A card, and the seat whose hand it opens, if any.
+impl Read for Grant {
+    ghost calls = { grant_calls };
+
+    fn read<C: Column>(reader: &mut Reader<'_, C>) -> Result<Grant, MessageError> {
+        let card = number(reader)?;
+        let seat = if is_some(reader)? {
+            Some(number(reader)?)
+        } else {
+            None
+        };
+        Ok(Grant { card, seat })
+    }
+}
+
+/// A list or a map: its items, and its end.
+fn read_list<C: Column, T: Read>(
     heap: Global,
-    reader: &mut Reader<'r, C>,
+    reader: &mut Reader<'_, C>,
     items: Items,
-    mut read: F,
 ) -> Result<Vec<T>, MessageError>
-    requires { F.IsAlwaysCallable read }
+    ensures { (input : List ℕ) → Reads C.Column.meaning input reader.old reader.new (items_calls items T.calls) (λ y xs. vec_items y ≡ xs) result }
 {
     let mut list = Vec::new(heap);
     for _ in 0..length(reader, items)? {
-        list.push(read(reader)?)?;
+        list.push(T::read(reader)?)?;
     }
-    reader.ask(Question::End)?;
+    end(reader)?;
     Ok(list)
 }
 
@@ -102,12 +128,14 @@ fn read_seat<'a, C: Column>(
     heap: Global,
     reader: &mut Reader<'_, C>,
     input: &'a [u8],
-) -> Result<ReadSeat<'a>, MessageError> {
-    reader.ask(Question::Tuple(3))?;
+) -> Result<ReadSeat<'a>, MessageError>
+    ensures { Reads C.Column.meaning input.now reader.old reader.new seat_calls SameSeat result }
+{
+    tuple(reader, 3)?;
     let name = text(reader, input)?;
-    let cards = read_list(heap, reader, Items::Elements, |reader| number(reader))?;
-    let grants = read_list(heap, reader, Items::Pairs, |reader| read_grant(reader))?;
-    reader.ask(Question::End)?;
+    let cards = read_list(heap, reader, Items::Elements)?;
+    let grants = read_list(heap, reader, Items::Pairs)?;
+    end(reader)?;
     Ok(ReadSeat {
         name,
         cards,
@@ -115,29 +143,48 @@ fn read_seat<'a, C: Column>(
     })
 }
 
+/// All seats.
+// Stays: a loop of its own beside `read_list`, since a seat that was read is of another type than one that was told: it is the same as that one, and not equal to it.
+fn read_seats<'a, C: Column>(
+    heap: Global,
+    reader: &mut Reader<'_, C>,
+    input: &'a [u8],
+) -> Result<Vec<ReadSeat<'a>>, MessageError>
+    ensures { Reads C.Column.meaning input.now reader.old reader.new (items_calls Elements seat_calls) (λ y xs. AllZip SameSeat (vec_items y) xs) result }
+{
+    let mut seats = Vec::new(heap);
+    for _ in 0..length(reader, Items::Elements)? {
+        seats.push(read_seat(heap, reader, input)?)?;
+    }
+    end(reader)?;
+    Ok(seats)
+}
+
 /// All seats, and nothing after them.
 fn read_state<'a, C: Column>(
     heap: Global,
     reader: &mut Reader<'_, C>,
     input: &'a [u8],
-) -> Result<ReadState<'a>, MessageError> {
-    // Stays: a closure for `read_list` that gives seats, which borrow the input, was tried, and its proof did not close.
-    let mut seats = Vec::new(heap);
-    for _ in 0..length(reader, Items::Elements)? {
-        seats.push(read_seat(heap, reader, input)?)?;
-    }
-    reader.ask(Question::End)?;
+) -> Result<ReadState<'a>, MessageError>
+    ensures lengths { KeepsLengths reader.old reader.new }
+    ensures reads { (s : TableState) → Awaits C.Column.meaning input.now reader.old (state_calls s) → Returned s result }
+{
+    let seats = read_seats(heap, reader, input)?;
     reader.finish()?;
     Ok(ReadState { seats })
 }
 
-/// The state that a message of a kind is, or why it is none; and the tables again.
+/// The state that a message of a kind is, or why it is none; and the tables again, as long as they were.
 pub(crate) fn receive<'a, C: Column>(
     heap: Global,
     tables: Parts,
     message: &'a [u8],
     kind: &C,
-) -> (Result<ReadState<'a>, MessageError>, Parts) {
+) -> (Result<ReadState<'a>, MessageError>, Parts)
+    ensures state { Receives (C.Column.meaning kind.now) (vec_len tables.nodes) (vec_len tables.slots) message.now result.0 }
+    ensures nodes { vec_len result.1.nodes ≡ vec_len tables.nodes }
+    ensures slots { vec_len result.1.slots ≡ vec_len tables.slots }
+{
     let Parts { nodes, slots } = tables;
     let mut reader = Reader::new(kind, message, nodes, slots);
     let state = read_state(heap, &mut reader, message);

@@ -1,4 +1,4 @@
-use Rattle.std.proofs.Common.{Ok, Err, inl}
+use Rattle.std.proofs.Common.{inl}
 use Rattle.replay.specs.Given.{sizes_for}
 use Rattle.replay.proofs.Giving.{back-sizes}
 use Rattle.states.specs.Documents.{state_calls}
@@ -12,7 +12,7 @@ returns-clause-message g c =
     elim c.match-answer.branch [
       | in-Ok w ↦
           let all = rw w.in-Ok.is at c.told-closed.ensures in
-          rw w.bytes-is (written-or-not (sizes_for c.args.tables) _ _ (state_calls c.args.state) w.message-bytes.result (w.message-bytes.ensures (state_calls c.args.state) all.0))
+          rw w.bytes-is (written-or-not _ (sizes_for c.args.tables) all.1 _ _ (state_calls c.args.state) (λ m. m.items) w.message-bytes.result (w.message-bytes.ensures (state_calls c.args.state) all.0))
       | in-Err w ↦ let stopped = rw w.in-Err.is at c.told-closed.ensures in rw w.bytes-is (inl (c.told-closed.result.0.desk, stopped))
     ]
 
