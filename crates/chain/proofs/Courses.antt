@@ -59,6 +59,17 @@ unfolding course
 course-more ns at p q =
     visited-same (length ns) (suc (length ns)) ns at (inr (omega arith)) (inr (omega arith)) ∙ visited-more (length ns) ns at p q
 
+visited-few : (n : ℕ) (ns : List ℕ) (at : ℕ) → length (visited n ns at) ≤ n
+visited-few zero ns at = omega arith
+visited-few (suc n) ns at =
+    let ih = visited-few n ns (onward at (get_or ns at 0)) in
+    cond_both (ltb 0 at && ltb at (length ns)) _ _ (λ is. length is ≤ suc n) (λ e. omega arith) (λ e. omega arith)
+
+-- a walk has no more records than the table
+pub length-course : (ns : List ℕ) (at : ℕ) → length (course ns at) ≤ length ns
+unfolding course
+length-course ns at = visited-few (length ns) ns at
+
 visited-within : (n : ℕ) (ns : List ℕ) (at : ℕ) → AllByRecursion (λ k. (0 < k) × (k < length ns)) (visited n ns at)
 visited-within zero ns at = tt
 visited-within (suc n) ns at =

@@ -1,5 +1,5 @@
 -- Chains under changes of the table.
-use Rattle.std.proofs.Common.{◌≡◌, ℕ, ◌<◌, ◌≤◌, cond, eqb, ◌⊎◌, List, [], ◌∷◌, ◌++◌, length, get_or, sym, refl, ap, ◌∙◌, subst, inl, inr, ⊎_elim, arith}
+use Rattle.std.proofs.Common.{◌≡◌, ℕ, ◌<◌, ◌≤◌, cond, eqb, ◌⊎◌, List, [], ◌∷◌, ◌++◌, length, get_or, sym, refl, ap, ◌∙◌, subst, inl, inr, ⊎_elim, arith, set, length-set, get_or-set_other}
 use Rattle.std.specs.List.{AllByRecursion}
 use Rattle.std.proofs.lemmas.Bool.{cond-true, cond-false, eq-eqb, ne_eqb}
 use Rattle.chain.specs.Chains.{Runs, Out, last_of, appended}
@@ -27,6 +27,14 @@ runs_same ns ms head (i ∷ is) l (e, same) (a, p, q, o, r) =
     let P : ℕ → Type 0 = λ n. ((n ≡ 0) ⊎ (i < n)) × Runs ms n is in
     let t = subst P (sym e) (o, runs_same ns ms (get_or ns i 0) is l same r) in
     (a, p, omega arith, t.0, t.1)
+
+-- a chain stays where a record that is none of its own is changed
+pub runs_other : (ns : List ℕ) (k n : ℕ) (head : ℕ) (is : List ℕ) → Out k is → Runs ns head is → Runs (set ns k n) head is
+runs_other ns k n head is out h = runs_same ns (set ns k n) head is (simp length-set (omega arith)) (same is out) h
+  where
+    same : (js : List ℕ) → Out k js → AllByRecursion (λ i. get_or (set ns k n) i 0 ≡ get_or ns i 0) js
+    same [] o = tt
+    same (j ∷ js) (o, os) = (get_or-set_other ns k j n 0 o, same js os)
 
 -- the last of some records is one of them
 pub last-in : (P : ℕ → Type 0) (i : ℕ) (is : List ℕ) → AllByRecursion P (i ∷ is) → P (last_of (i ∷ is))

@@ -1,7 +1,10 @@
 -- Results that a test chose, and faults that are passed on.
-use Rattle.std.specs.Prelude.{◌≡◌, ℕ, Bool, true, false, cond, IsErrAnd, Ok, Err, Result, refl}
+use Rattle.std.specs.Prelude.{◌≡◌, ℕ, Bool, true, false, cond, IsErrAnd, Ok, Err, Result, refl, ◌+◌, ◌<◌}
 use Rattle.std.proofs.Common.{◌∙◌, ap, arith}
 use Rattle.std.proofs.lemmas.Result.{err_from_is_err_and}
+use Rattle.column.specs.declared.fault.Cause.{Cause}
+use Rattle.column.specs.declared.fault.Fault.{Fault}
+use Rattle.column.specs.Parsed.{fault}
 
 -- where a test chose between two results and the answer is an Ok, the test held
 pub chose : {X E : Type 0} (b : Bool) (x y : X) (e : E) → Ok y ≡ cond b (Ok x) (Err e) → (b ≡ true) × (y ≡ x)
@@ -20,3 +23,7 @@ declined false x d e h = (refl, cc)
 -- what the exit of a `?` returns is the callee's error
 pub passed_on : {X E : Type 0} (r : Result X E) (e : E) → IsErrAnd r (λ y. y ≡ e) → r ≡ Err e
 passed_on r e h = let p = err_from_is_err_and r h in p.1 ∙ ap Err p.2
+
+-- a fault that a layer finds itself
+pub found_here : (c : Cause) (layer : ℕ) → layer < 65536 → ◌≡◌ {A = Fault} (record { cause = c; layer = layer }) (fault c (layer + 0))
+found_here c layer h = ap (λ (n : ℕ). record { cause = c; layer = n }) (omega arith)

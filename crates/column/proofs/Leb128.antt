@@ -1,8 +1,8 @@
 -- The short kind: a value's groups one by one, the loops over them, and what reading one value answers.
-use Rattle.std.specs.Prelude.{◌≡◌, ℕ, zero, suc, ◌+◌, ◌/◌, ◌%◌, ◌^◌, ◌<◌, ◌≤◌, Bool, cond, List, [], ◌∷◌, ◌++◌, length, take, drop, Option, Some, None, Result, Ok, Err, nat_lt, position, slice_set, refl}
+use Rattle.std.specs.Prelude.{◌≡◌, ℕ, zero, suc, ◌+◌, ◌/◌, ◌%◌, ◌^◌, ◌<◌, ◌≤◌, Bool, cond, List, [], ◌∷◌, ◌++◌, length, take, drop, Option, Some, None, Result, Ok, Err, nat_lt, position, slice_set, refl, ◌-◌, ◌*◌, true, ◌⊎◌, slice_index, slice_index_or}
 use Rattle.std.specs.List.{position_from}
-use Rattle.std.proofs.Common.{sym, ◌∙◌, ap, ap₂, inl, inr, add-zero, arith}
-use Rattle.std.proofs.lemmas.List.{append_assoc, drop-drop, drop-set-lt, length-set, take_more_set}
+use Rattle.std.proofs.Common.{sym, ◌∙◌, ap, ap₂, inl, inr, add-zero, arith, pow_mono}
+use Rattle.std.proofs.lemmas.List.{append_assoc, drop-drop, drop-set-lt, length-set, take_more_set, drop_more, drop_all, length-take, get_or-take}
 use Rattle.std.proofs.lemmas.Iterator.Adapters.{position_from-zero}
 use Rattle.std.proofs.lemmas.Bool.{lt-ltb, le-ltb, cases_lt}
 use Rattle.column.specs.declared.fault.Cause.TheVariants.{Short, Bad}
@@ -14,6 +14,8 @@ use Rattle.column.specs.Short.{groups, leb128, front, short_one}
 use Rattle.column.specs.Laws.Short.{groups-small, groups-more, form-some, leb-fewest, Fronted, fronted}
 use Rattle.column.proofs.Overlaid.{overlaid-one}
 use Rattle.column.proofs.OneByOne.{onto-onto}
+use Rattle.column.specs.Widths.{listed}
+use Rattle.column.specs.Laws.Listed.{width-most}
 
 -- ---- a value's groups
 
@@ -121,6 +123,38 @@ front-got layer bs size e = go (front 10 bs) refl (fronted 10 bs) e
         (is ∙ ap₂ got bytes same, (refl, rw same at f.1, rw same at f.2, rw same at f.3, rw same at f.4))
     go (short depth) is f e = let z : ◌≡◌ {A = ℕ} 0 1 = cc in absurd (omega arith)
     go (bad depth) is f e = let z : ◌≡◌ {A = ℕ} 0 1 = cc in absurd (omega arith)
+
+-- the groups from the tenth on bound the number from above and from below
+total-under : (k : ℕ) (bs : List ℕ) → total 128 (drop k bs) ≤ 1 → total 128 bs < 128 ^ k * 2
+total-under zero bs h = omega arith
+total-under (suc k) [] h = omega (arith, total-under k [] (omega (arith, ap (total 128) (drop_all k [] (omega arith)))))
+total-under (suc k) (b ∷ bs) h = omega (arith, total-under k bs h)
+
+total-over : (k : ℕ) (bs : List ℕ) → 2 ≤ total 128 (drop k bs) → 128 ^ k * 2 ≤ total 128 bs
+total-over zero bs h = omega arith
+total-over (suc k) [] h = absurd (omega arith)
+total-over (suc k) (b ∷ bs) h = omega (arith, total-over k bs h)
+
+tenth : (bs : List ℕ) (size : ℕ) → size ≤ length bs → size ≡ 10 → slice_index bs 9 < 128 → total 128 (drop 9 (take size bs)) ≡ slice_index bs 9
+tenth bs size l e s =
+    let long : length (take size bs) ≡ 10 = length-take size bs ∙ omega arith in
+    let there : slice_index_or (take size bs) 9 0 ≡ slice_index_or bs 9 0 = get_or-take size bs 9 0 (omega arith) in
+    let only : drop 9 (take size bs) ≡ slice_index bs 9 ∷ [] = drop_more (take size bs) 9 0 (omega (arith, long)) ∙ ap₂ (λ (x : ℕ) (xs : List ℕ). x ∷ xs) there (drop_all 10 (take size bs) (omega (arith, long))) in
+    ap (total 128) only ∙ omega arith
+
+-- a form whose tenth group is at most 1 fits 64 bits
+pub form-fits : (bs : List ℕ) (size : ℕ) → Fronted 10 bs (got (take size bs) size) → (size ≡ 10 → slice_index bs 9 ≤ 1) → total 128 (take size bs) < 2 ^ 64
+form-fits bs size f small = omega (arith, total-under 9 (take size bs) (high (cases_lt size 10)))
+  where
+    high : (size < 10) ⊎ (10 ≤ size) → total 128 (drop 9 (take size bs)) ≤ 1
+    high (inl s) = rw (drop_all 9 (take size bs) (simp length-take (omega arith))) (omega arith)
+    high (inr m) = let e : size ≡ 10 = omega (arith, f.2) in omega (arith, tenth bs size f.3 e (omega (arith, small e)), small e)
+
+-- and one whose tenth group is above 1 fits no width
+pub form-large : (w : ℕ) (bs : List ℕ) (size : ℕ) → listed w ≡ true → Fronted 10 bs (got (take size bs) size) → size ≡ 10 → 1 < slice_index bs 9 → 2 ^ w ≤ total 128 (take size bs)
+form-large w bs size l f e large =
+    let last : slice_index_or bs 9 0 < 128 = let nine : size - 1 ≡ 9 = omega arith in rw nine at f.4 in
+    omega (arith, total-over 9 (take size bs) (omega (arith, tenth bs size f.3 e last)), pow_mono (width-most w l))
 
 -- ---- what reading one value answers
 

@@ -1,5 +1,5 @@
 -- A place that waits for a value waits for it at a record of a node.
-use Rattle.std.proofs.Common.{◌≡◌, ℕ, ◌-◌, ◌<◌, List, [], ◌∷◌, refl, subst, inl, inr}
+use Rattle.std.proofs.Common.{◌≡◌, ℕ, ◌-◌, ◌<◌, List, [], ◌∷◌, refl, subst, inl, inr, arith}
 use mathlib.Core.Logic.{∥∥₁_elim, ∥∥₁_prop}
 use Rattle.document.specs.Nodes.{Path}
 use Rattle.document.specs.Places.{Place, items, keys, vals, fields, lone, only, closing, Next, nowhere, there, next}
@@ -16,6 +16,11 @@ use Rattle.de.specs.Reads.{Reads}
 use Rattle.de.specs.Served.{Readable}
 use Rattle.de.specs.Steps.{Plan, declines, closes, begins, asks, on_ahead, on_question, Aims}
 use Rattle.de.specs.Standing.{Stands}
+use native.Mathlib.Bridge.{le_prop}
+
+-- a record that is a node's is in use
+pub readable-used : (input : List ℕ) (T : Sheets) (r : ℕ) → Readable input T r → r < T.used
+readable-used input T r h = ∥∥₁_elim h le_prop (λ (ps, S, p, reads, home). omega (arith, reads.linked.used, home.1))
 
 -- a place of the definitions is not the root's: the record that it asks is where its next value stands
 pub asks_ahead : (ns : List Path) (s : State) (f : Place) → Placed ns s f → on_question s ≡ on_ahead (ahead s)

@@ -1,16 +1,18 @@
 -- How what the tables hold grows with each entry.
 use Rattle.std.proofs.Common.{◌≡◌, ℕ, zero, suc, ◌+◌, ◌<◌, ◌≤◌, Bool, true, false, cond, ◌≢◌, List, [], ◌∷◌, ◌++◌, length, get_or, sym, refl, ap, ◌∙◌, subst, append_assoc, append-nil, arith, length-append}
-use Rattle.document.specs.Calls.{Kind, Value, cell, str}
+use Rattle.document.specs.Calls.{Kind, Value, cell, str, ENUM, scalar, text, unit, none, some, variant, seq, map, tuple, kind}
 use Rattle.document.specs.Nodes.{Path, root, ◌▹◌, Step, alt, same}
 use Rattle.document.specs.Entries.{Entry, at}
 use Rattle.document.specs.Bytes.{firsts}
-use Rattle.document.specs.Tables.{takes, cells, cells_of, records_of, letters_of}
+use Rattle.document.specs.Tables.{takes, cells, cells_of, records_of, letters_of, branch_of, unbranched}
 use Rattle.document.specs.Records.{had, marked, added, added_by, nodes_of, times}
 use Rattle.document.proofs.Paths.{same_self, same_true, total-append}
 use Rattle.document.proofs.Between.{is_nil}
 use Rattle.document.proofs.Allotting.{length-brought, length-added, times-firsts, times-append, spawned, times-spawned, spawned-alt}
 -- an entry's records; the nodes that have a value, and the indices at a node, with one more entry
 pub use Rattle.document.proofs.Allotting.{length-added-one, firsts-snoc, had-snoc}
+use Rattle.std.specs.List.{AllByRecursion}
+use Rattle.document.proofs.Sound.{OneKind}
 
 -- ---- the nodes with a record
 
@@ -59,6 +61,27 @@ branch-there ts p i = omega (arith, times-spawned p (alt i) [] ts, spawned-alt p
 pub unmarked-childless : (ts : List Entry) (p : Path) (s : Step) → at p ts ≡ [] → times (p ▹ s) (nodes_of ts) ≡ 0
 unfolding spawned
 unmarked-childless ts p s e = omega (arith, times-spawned p s [] ts, ap (λ (vs : List Value). times (p ▹ s) (spawned p [] vs)) e)
+
+-- A value of another kind than ENUM takes no index.
+pub unbranched-of : (v : Value) → kind v ≢ ENUM → branch_of v ≡ unbranched
+unbranched-of (scalar k b) h = refl
+unbranched-of (text bs) h = refl
+unbranched-of unit h = refl
+unbranched-of none h = absurd (h refl)
+unbranched-of some h = absurd (h refl)
+unbranched-of (variant i) h = absurd (h refl)
+unbranched-of (seq n) h = refl
+unbranched-of (map n) h = refl
+unbranched-of (tuple n) h = refl
+
+-- Values of one kind other than ENUM add no index to those that there are.
+pub had-kept : (seen : ℕ → Bool) (K : Kind) (vs : List Value) (i : ℕ) → K ≢ ENUM → AllByRecursion (λ v. kind v ≡ K) vs → had seen vs i ≡ seen i
+had-kept seen K [] i h k = refl
+had-kept seen K (v ∷ vs) i h k = rw (unbranched-of v (λ e. h (sym k.0 ∙ e))) (had-kept seen K vs i h k.1)
+
+-- Values of one kind other than ENUM have no index.
+pub no-branches : (v : Value) (vs : List Value) (i : ℕ) → OneKind (v ∷ vs) → kind v ≢ ENUM → had (λ j. false) (v ∷ vs) i ≡ false
+no-branches v vs i k h = had-kept (λ j. false) (kind v) (v ∷ vs) i h (refl, k)
 
 -- ---- how often a node stands in a list, and where
 

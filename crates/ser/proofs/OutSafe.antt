@@ -1,5 +1,5 @@
 -- What write-out needs is a mere proposition.
-use Rattle.std.proofs.Common.{ℕ, ◌+◌, ◌^◌, ◌<◌, ◌≤◌, List, length, refl}
+use Rattle.std.proofs.Common.{ℕ, ◌+◌, ◌^◌, ◌<◌, ◌≤◌, List, length, refl, arith}
 use native.Mathlib.Bridge.{le_prop}
 use Rattle.std.specs.List.{AllByRecursion-prop}
 use Rattle.document.specs.Calls.{width}
@@ -47,3 +47,12 @@ out-safe-prop T n a b = λ i. record {
   within = λ j h. le_prop (a.within j h) (b.within j h) i;
   safe = λ j h. node-safe-prop T.cells T.text n _ (a.safe j h) (b.safe j h) i;
 }
+
+-- a longer scratch does as well
+pub out-safe-more : (T : Sheets) (n m : ℕ) → n ≤ m → OutSafe T n → OutSafe T m
+out-safe-more T n m l a =
+    record {
+      listed = a.listed;
+      within = a.within;
+      safe = λ j h. let s = a.safe j h in record { few = omega (arith, s.few); fits = s.fits; pieces = s.pieces };
+    }

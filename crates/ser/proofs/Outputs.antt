@@ -1,9 +1,9 @@
 -- Bytes that are put one after another.
-use Rattle.std.proofs.Common.{◌≡◌, ℕ, ◌+◌, ◌<◌, ◌≤◌, true, false, cond, ◌&&◌, ltb, leb, List, [], ◌∷◌, ◌++◌, map as each, length, take, Option, Some, None, IsErrAnd, MatchResult, Ok, Err, Result, sym, refl, ap, ◌∙◌, subst, arith}
+use Rattle.std.proofs.Common.{◌≡◌, ℕ, ◌+◌, ◌<◌, ◌≤◌, true, false, cond, ◌&&◌, ltb, leb, List, [], ◌∷◌, ◌++◌, map as each, length, take, Option, Some, None, IsErrAnd, MatchResult, Ok, Err, Result, sym, refl, ap, ◌∙◌, subst, arith, suc}
 use Rattle.std.specs.List.{filter_map, cons_option}
 use Rattle.std.proofs.lemmas.List.{length-append, take-take}
 use Rattle.std.proofs.lemmas.Result.{err_from_is_err_and}
-use Rattle.std.proofs.lemmas.Bool.{cond-true, cond-false, leb-true, leb-false, le-leb, lt-leb, and_from}
+use Rattle.std.proofs.lemmas.Bool.{cond-true, cond-false, leb-true, leb-false, le-leb, lt-leb, and_from, cond_both}
 use Rattle.column.specs.declared.fault.Fault.{Fault}
 use Rattle.column.specs.declared.fault.Cause.TheVariants.{Room}
 use Rattle.column.specs.Parsed.{fault}
@@ -27,11 +27,11 @@ put_as {place = place} {xs = xs} {ys = ys} {old = old} {new = new} {r = r} {s = 
     subst Q f (subst P e p)
 
 -- bytes that end within the output
-ending-in : (n size : ℕ) → n ≤ size → Ok n ≡ ending n size
+pub ending-in : (n size : ℕ) → n ≤ size → Ok n ≡ ending n size
 ending-in n size h = sym (cond-true (leb n size) (Ok n) (Err refusals.Room) (le-leb n size h))
 
 -- .. and past it
-ending-past : (n size : ℕ) → size < n → Err refusals.Room ≡ ending n size
+pub ending-past : (n size : ℕ) → size < n → Err refusals.Room ≡ ending n size
 ending-past n size h = sym (cond-false (leb n size) (Ok n) (Err refusals.Room) (lt-leb n size h))
 
 -- no bytes
@@ -106,6 +106,18 @@ after-accepted P place (Ok m) s n h b = let e : m ≡ n = cc in ap (λ k. Ok (pl
 after-accepted P place (Err f) s n h b = let a = (err_from_is_err_and s h).1 in cc
 
 -- ---- the numbers of a column
+
+-- the long lengths fit as all do ..
+pub longs-below : (w : ℕ) (ns : List ℕ) → Below w ns → Below w (longs ns)
+longs-below w [] h = tt
+longs-below w (n ∷ ns) (a, h) = cond_both (ltb n 255) (longs ns) (n ∷ longs ns) (Below w) (λ e. longs-below w ns h) (λ e. (a, longs-below w ns h))
+
+-- .. and are no more
+pub longs-few : (ns : List ℕ) → length (longs ns) ≤ length ns
+longs-few [] = omega arith
+longs-few (n ∷ ns) =
+    let ih = longs-few ns in
+    cond_both (ltb n 255) (longs ns) (n ∷ longs ns) (λ ks. length ks ≤ suc (length ns)) (λ e. omega arith) (λ e. omega arith)
 
 -- where each value has a number in it, all of them stand there
 pub kept-each : (f : ℕ → ℕ) (ns : List ℕ) → filter_map (λ n. Some (f n)) ns ≡ each f ns
