@@ -81,6 +81,19 @@ impl Code for Short {
 
     fn take(&self, layer: u16, width: u32, bytes: &[u8]) -> Result<Taken, Fault> {
         let top = greatest(layer, width)?;
+        // Stays: a form of one byte is read by itself, since most values are small, and a search and a fold would be most of the work.
+        if let [first, ..] = bytes {
+            if *first < 128 {
+                let small = u64::from(*first);
+                if small > top {
+                    return Err(Cause::Bad.at(layer));
+                }
+                return Ok(Taken {
+                    value: small,
+                    size: 1,
+                });
+            }
+        }
         let size = form_size(layer, bytes)?;
         if size == LONGEST && bytes[9] > TENTH {
             return Err(Cause::Bad.at(layer));
