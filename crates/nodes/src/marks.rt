@@ -22,6 +22,31 @@ pub enum Mark {
 }
 
 impl Mark {
+    /// Marks by number, each its own.
+    pub fn number(self) -> u64
+        ensures { result ≡ mark_number self }
+    {
+        match self {
+            Mark::Unmarked => 0,
+            Mark::Scalar(Scalar::Bool) => 1,
+            Mark::Scalar(Scalar::U8) => 2,
+            Mark::Scalar(Scalar::U16) => 3,
+            Mark::Scalar(Scalar::U32) => 4,
+            Mark::Scalar(Scalar::U64) => 5,
+            Mark::Scalar(Scalar::I8) => 6,
+            Mark::Scalar(Scalar::I16) => 7,
+            Mark::Scalar(Scalar::I32) => 8,
+            Mark::Scalar(Scalar::I64) => 9,
+            Mark::Scalar(Scalar::F32) => 10,
+            Mark::Text => 11,
+            Mark::Seq => 12,
+            Mark::Map => 13,
+            Mark::Enum => 14,
+            Mark::Unit => 15,
+            Mark::Tuple(n) => 16 + u64::from(n),
+        }
+    }
+
     /// The mark of unsigned numbers in place of signed ones of the same width.
     fn unsigned(self) -> Mark
         ensures { result ≡ unsigned self }
