@@ -83,7 +83,7 @@ impl Question {
             }),
             "reads" => Ok(Question::Reads {
                 kind: words.parsed()?,
-                width: words.parsed()?,
+                width: words.narrowed()?,
                 count: words.parsed()?,
                 set: words.set()?,
             }),
@@ -127,8 +127,8 @@ impl Call {
     fn parse(words: &mut Words<'_>) -> anyhow::Result<Call> {
         Ok(Call {
             kind: words.parsed()?,
-            layer: words.parsed()?,
-            width: words.parsed()?,
+            layer: words.narrowed()?,
+            width: words.narrowed()?,
         })
     }
 

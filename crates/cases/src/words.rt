@@ -5,7 +5,9 @@ ghost use Rattle.cases.specs.Words.{digit_of};
 
 use crate::strings::StringSet;
 use anyhow::anyhow;
-use std::alloc::Global;
+use std::alloc::{AllocError, Global};
+use std::error::Error;
+use std::fmt;
 use std::str::FromStr;
 
 /// What is left of a line.
@@ -37,6 +39,14 @@ impl<'a> Words<'a> {
         Ok(self.word()?.parse::<T>()?)
     }
 
+    /// The next word, as a number that is refused by its size where the type has no room for it.
+    pub(crate) fn narrowed<T: TryFrom<u64>>(&mut self) -> anyhow::Result<T>
+    where
+        anyhow::Error: From<T::Error>,
+    {
+        Ok(T::try_from(self.parsed::<u64>()?)?)
+    }
+
     /// Values with commas, or '-' for none.
     pub(crate) fn values(&mut self, alloc: Global) -> anyhow::Result<Vec<u64>> {
         match self.word()? {
@@ -52,7 +62,7 @@ impl<'a> Words<'a> {
     pub(crate) fn bytes(&mut self, alloc: Global) -> anyhow::Result<Vec<u8>> {
         match self.word()? {
             "-" => Ok(Vec::new(alloc)),
-            bytes => bytes.as_bytes().chunks(2).map(byte).try_collect(alloc),
+            bytes => Ok(bytes.as_bytes().chunks(2).map(byte).try_collect(alloc)?),
         }
     }
 
@@ -66,23 +76,52 @@ impl<'a> Words<'a> {
     }
 }
 
+/// Why a word writes no bytes.
+#[derive(Clone, Copy, Debug)]
+enum BytesError {
+    /// A byte has fewer digits than two, or more.
+    Length,
+    /// A letter is no digit.
+    Digit,
+    /// No memory is left for the bytes.
+    Memory(AllocError),
+}
+
+impl fmt::Display for BytesError {
+    fn fmt<W: fmt::Write>(&self, f: &mut fmt::Formatter<W>) -> fmt::Result {
+        match self {
+            BytesError::Length => write!(f, "a byte has two digits"),
+            BytesError::Digit => write!(f, "no hexadecimal digit"),
+            BytesError::Memory(error) => write!(f, "{error}"),
+        }
+    }
+}
+
+impl Error for BytesError {}
+
+impl From<AllocError> for BytesError {
+    fn from(error: AllocError) -> BytesError {
+        BytesError::Memory(error)
+    }
+}
+
 /// The byte that two digits write.
-fn byte(digits: &[u8]) -> anyhow::Result<u8> {
+fn byte(digits: &[u8]) -> Result<u8, BytesError> {
     let [high, low] = digits else {
-        return Err(anyhow!("a byte has two digits"));
+        return Err(BytesError::Length);
     };
     Ok(digit(*high)? * 16 + digit(*low)?)
 }
 
 /// The value of a hexadecimal digit.
 // Stays: the library's conversions, as `to_digit` and `from_str_radix`, take capital letters too, which are no digits of the data files.
-fn digit(letter: u8) -> anyhow::Result<u8>
+fn digit(letter: u8) -> Result<u8, BytesError>
     ensures value { MatchResult result (λ d. digit_of letter ≡ Some d) (λ _. digit_of letter ≡ None) }
     ensures small { IfOk result (λ d. d < 16) }
 {
     match letter {
         b'0'..=b'9' => Ok(letter - b'0'),
         b'a'..=b'f' => Ok(letter - b'a' + 10),
-        _ => Err(anyhow!("no hexadecimal digit")),
+        _ => Err(BytesError::Digit),
     }
 }
