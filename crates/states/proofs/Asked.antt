@@ -154,7 +154,12 @@ pub option-told : (a : Answer) (c : Call) (place : ℕ) → AskedFor questions.O
 option-told a c place (inl e) ans = inl (subst (λ x. Answers a x place) e ans)
 option-told a c place (inr e) ans = inr (subst (λ x. Answers a x place) e ans)
 
+-- the answer of this length: of a list to the question for one, and of a map to that for a map
+abbrev pub length_answer : Items → ℕ → Answer
+length_answer Elements n = answers.Seq n
+length_answer Pairs n = answers.Map n
+
 -- .. to the length of a list or a map
-pub length-told : (items : Items) (a : Answer) (c : Call) (place : ℕ) → AskedFor (asks_length items) c → Answers a c place → (n : ℕ) × ((a ≡ answers.Seq n) ⊎ (a ≡ answers.Map n))
-length-told Elements a c place (n, e) ans = (n, inl (subst (λ x. Answers a x place) e ans))
-length-told Pairs a c place (n, e) ans = (n, inr (subst (λ x. Answers a x place) e ans))
+pub length-told : (items : Items) (a : Answer) (c : Call) (place : ℕ) → AskedFor (asks_length items) c → Answers a c place → (n : ℕ) × (a ≡ length_answer items n)
+length-told Elements a c place (n, e) ans = (n, subst (λ x. Answers a x place) e ans)
+length-told Pairs a c place (n, e) ans = (n, subst (λ x. Answers a x place) e ans)

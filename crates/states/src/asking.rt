@@ -63,9 +63,16 @@ pub(crate) fn length<C: Column>(
 ) -> Result<u64, MessageError>
     ensures { (input : List ℕ) → Reads C.Column.meaning input reader.old reader.new (length_calls items) (λ y x. y ≡ x) result }
 {
-    match reader.ask(items.question())? {
-        Answer::Seq(length) | Answer::Map(length) => Ok(length),
-        _ => unreachable(),
+    let answer = reader.ask(items.question())?;
+    match items {
+        Items::Elements => match answer {
+            Answer::Seq(length) => Ok(length),
+            _ => unreachable(),
+        },
+        Items::Pairs => match answer {
+            Answer::Map(length) => Ok(length),
+            _ => unreachable(),
+        },
     }
 }
 

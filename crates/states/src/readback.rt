@@ -25,6 +25,13 @@ struct Back<'a> {
     state: ReadState<'a>,
 }
 
+/// Why a state did not come back, and how many bytes its message has if it was sent.
+#[derive(Drop)]
+struct Failure {
+    sent: Option<usize>,
+    error: MessageError,
+}
+
 /// Sends a state under a kind, as this message, and receives it under the same; and the tables again, as long as they were.
 fn returned<'a, C: Column>(
     heap: Global,
@@ -32,7 +39,7 @@ fn returned<'a, C: Column>(
     state: TableState<'_>,
     tables: Tables,
     message: &'a mut Vec<u8>,
-) -> (Result<Back<'a>, MessageError>, Tables)
+) -> (Result<Back<'a>, Failure>, Tables)
     ensures back { ComesBack (C.Column.meaning kind.now) CELLS ROOM tables state.entry result.0 }
     ensures writer { sizes_for result.1.writer ≡ sizes_for tables.writer }
     ensures nodes { vec_len result.1.reader.nodes ≡ vec_len tables.reader.nodes }
@@ -48,10 +55,16 @@ fn returned<'a, C: Column>(
             let tables = Tables { writer, reader };
             match read {
                 Ok(state) => (Ok(Back { message, state }), tables),
-                Err(error) => (Err(error), tables),
+                Err(error) => {
+                    let sent = Some(message.len());
+                    (Err(Failure { sent, error }), tables)
+                }
             }
         }
-        Err(error) => (Err(error), Tables { writer, reader }),
+        Err(error) => {
+            let failure = Failure { sent: None, error };
+            (Err(failure), Tables { writer, reader })
+        }
     }
 }
 
@@ -73,7 +86,13 @@ fn show_return<C: Column>(
             println!(rt; "    what was read is what was written: {same}")?;
             show_looks(rt, &back.state)?;
         }
-        Err(error) => println!(rt; "  {title}: {error}")?,
+        Err(Failure { sent, error }) => match sent {
+            None => println!(rt; "  {title}: {error}")?,
+            Some(size) => {
+                println!(rt; "  {title}, {}", Size(size))?;
+                println!(rt; "    {error}")?;
+            }
+        },
     }
     Ok(tables)
 }
