@@ -1,8 +1,18 @@
 -- A search among the children of a record.
 use Rattle.std.proofs.Common.{◌≡◌, ℕ, zero, suc, ◌+◌, ◌<◌, ◌≤◌, Bool, true, false, cond, eqb, ◌⊎◌, List, [], ◌∷◌, map, length, get_or, Option, None, Some, MatchOption, unwrap_or, sym, refl, ap, ◌∙◌, subst, inl, inr, ⊎_elim, one-add, arith}
-use Rattle.std.specs.List.{AllByRecursion, AllWithin, HoldsAt}
-use Rattle.std.proofs.lemmas.List.{get_or-map}
+use Rattle.std.specs.Bool.{⊤}
+use Rattle.std.specs.Fn.{CalledAt}
+use Rattle.std.specs.Iterator.{YieldsThen}
+use Rattle.std.specs.List.{AllByRecursion, AllWithin, FoldsTo, HoldsAt}
+use Rattle.std.proofs.ByRecursion.{All-weaker}
+use Rattle.std.proofs.lemmas.Iterator.{first_from_find}
+use Rattle.std.proofs.lemmas.List.{get_or-map, length-map}
 use Rattle.std.proofs.lemmas.Bool.{cond-true, cond-false, eq-eqb, ne_eqb, eqb-true, eqb-false, cases_lt}
+use Rattle.chain.specs.declared.walks.Walk.{Walk}
+use Rattle.chain.specs.Chains.{course}
+use Rattle.chain.specs.Walks.{table_of, place_of as stands_at}
+use Rattle.chain.proofs.Courses.{course-within}
+use Rattle.chain.proofs.Walking.{walks, YieldsList-from_walk}
 use Rattle.document.specs.Nodes.{Path, root, ◌▹◌, Step, alt}
 use Rattle.document.specs.Records.{times}
 use Rattle.document.proofs.Growth.{place_of}
@@ -49,6 +59,18 @@ module _ {R : Type 0} (index_of : R → ℕ) (table : List R) (i : ℕ) where
       → unwrap_or r 0 ≡ seek (map index_of table) i ks
   seek-first ks None w m = seek-none ks w m
   seek-first ks (Some y) w m = seek-some ks y m.1 w m.0 m.2 m.3 m.4
+
+-- What a closure that asks for the index finds in a walk is what is to be found in the chain: a child, or 0 for none.
+pub seek-walked : {R F : Type 0} {g : _} {f : F} {s : Walk R} (u : Walk R) (next_of index_of : R → ℕ) (table : List R) (first i : ℕ) {r o : Option ℕ}
+    → (xs : List ℕ) × (j : F) × YieldsThen (walks next_of) s xs r u × FoldsTo (λ p x q. CalledAt g p x false q) f xs j × MatchOption r ⊤ (λ x. (h : F) × CalledAt g j x true h)
+    → table_of s ≡ table → stands_at s ≡ first
+    → ((k : ℕ) (q : F) → CalledAt g f k true q → Hit index_of table i k) → ((k : ℕ) (q : F) → CalledAt g f k false q → (q ≡ f) × Miss index_of table i k)
+    → r ≡ o → unwrap_or o 0 ≡ seek (map index_of table) i (course (map next_of table) first)
+seek-walked {f} u next_of index_of table first i {r} ran at from hits misses is =
+    ap (λ w. unwrap_or w 0) (sym is)
+    ∙ seek-first index_of table i (course (map next_of table) first) r
+    (All-weaker _ (λ k. k < length table) (λ k h. simp length-map at h.1) _ (course-within (map next_of table) first))
+    (first_from_find u f r (Hit index_of table i) (Miss index_of table i) ran (YieldsList-from_walk next_of table first at from) hits misses)
 
 -- The first of some records with an index: there is none and the answer is 0, or it is one of them and has the index.
 pub seek_found : (indices : List ℕ) (i : ℕ) (P : ℕ → Type 0) (ks : List ℕ) → AllByRecursion P ks

@@ -41,9 +41,10 @@ pub trait Parent: Indexed {
 pub fn find<R: Indexed>(table: &[R], children: Chain, index: u32) -> usize
     ensures { result ≡ seek (map R.Indexed.index_of table.now) index (course (map R.Linked.next_of table.now) children.first) }
 {
-    walk(table, children)
-        .find(|&k| table[k].index() == index)
-        .unwrap_or(0)
+    let Some(child) = walk(table, children).find(|&k| table[k].index() == index) else {
+        return 0;
+    };
+    child
 }
 
 /// The table with this record as the root's, at place 1, if it has that place.
