@@ -57,3 +57,7 @@ root-blank ns = ⊎_elim
     (λ l. ap (λ xs. get_or xs 1 blank_node) (cond-true (ltb 1 (length ns)) (set ns 1 blank_node) ns (lt-ltb 1 (length ns) l)) ∙ get_or-set_same ns 1 blank_node blank_node (omega arith))
     (λ l. ap (λ xs. get_or xs 1 blank_node) (cond-false (ltb 1 (length ns)) (set ns 1 blank_node) ns (le-ltb 1 (length ns) l)) ∙ get_or_past ns 1 blank_node (omega arith))
     (cases_lt 1 (length ns))
+
+-- and so is that of a table that was made of others by a record that is blank
+pub root-put : {made : List Node} (ns : List Node) (put : Node) → made ≡ rooted ns put → put ≡ blank_node → get_or made 1 blank_node ≡ blank_node
+root-put ns put is blank = ap (λ xs. get_or xs 1 blank_node) (is ∙ ap (rooted ns) blank) ∙ root-blank ns

@@ -44,10 +44,11 @@ loop-step-preserved g c = elim c.if-step.branch [
       (omega (arith, w.count-is), subst (λ r. Along col c.args.input.now c.args.reader.now (askings steps) r c.if-step.count (askings (drop (i + 1) steps))) (sym w.reader-is) (subst (λ n. Along col c.args.input.now c.args.reader.now (askings steps) c.loop-step.reader n (askings (drop (i + 1) steps))) (sym w.count-is) next))
 ]
 
--- finish accepts or refuses
-ended : (r : Result (Unit {0}) Refusal) (e : Result (Unit {0}) Mismatch) → MatchResult r (λ u. e ≡ Ok u) (λ refusal. e ≡ Err (Refused refusal)) → ending_of r ≡ e
-ended (Ok u) e h = sym h
-ended (Err refusal) e h = sym h
+-- finish accepts or refuses, and what is told of it is that
+ended : (r : Result (Unit {0}) Refusal) (m e : Result (Unit {0}) Mismatch) → MatchResult r (λ u. m ≡ Ok u) (λ refusal. m ≡ Err (Refused refusal))
+    → ((u : Unit {0}) → m ≡ Ok u → e ≡ Ok u) → ((refusal : Refusal) → m ≡ Err (Refused refusal) → e ≡ Err (Refused refusal)) → ending_of r ≡ e
+ended (Ok u) m e h accepts refuses = sym (accepts u h)
+ended (Err refusal) m e h accepts refuses = sym (refuses refusal h)
 
 pub returns-clause-heard : goal.returns-clause-heard
 returns-clause-heard g c R st =
@@ -56,4 +57,4 @@ returns-clause-heard g c R st =
     let (few, along) = c.loop-step.invariant in
     let last = subst (Along col c.args.input.now c.args.reader.now (askings steps) c.loop-step.reader c.loop-step.count) (askings-end steps c.loop-step.step-index c.loop-step-test.false) along in
     let all = along-end col c.args.input.now c.args.reader.now (askings steps) c.loop-step.reader c.loop-step.count c.finish.result last c.finish.ensures R st in
-    subst (Listens col c.args.input.now R (askings steps) c.loop-step.count) (ended c.finish.result c.map_err-ending.result (search rules)) all
+    subst (Listens col c.args.input.now R (askings steps) c.loop-step.count) (ended c.finish.result c.map_err-ending.result _ (search rules) (λ u h. search (rules, h)) (λ x h. search (rules, h))) all
